@@ -1,5 +1,5 @@
 pub mod Firsts
-pub mod Hulls
+pub mod Places
 pub mod PinSteps
 pub mod Room
 pub mod Through

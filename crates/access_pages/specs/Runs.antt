@@ -1,9 +1,8 @@
 -- The pages that areas have in a span, as runs of their memory objects' pages, and pins by accesses on them.
 use Rattle.std.specs.Prelude.{ℕ, ◌≡◌, ◌<◌, ◌≤◌, ◌+◌, ◌-◌, ◌/◌, ◌^◌, Bool, true, false, ◌==◌, ◌||◌, not, max, min}
-use Rattle.std.specs.Prelude.{Option, Some, None, is_none, List, map, filter, length}
+use Rattle.std.specs.Prelude.{None, is_none, List, map, filter, length}
 use Rattle.std.specs.List.{count_by, list_all, list_any}
 use Rattle.frame_memory.specs.Pool.{FramePool}
-use Rattle.iofd_words.specs.Areas.{area_at}
 use Rattle.iofd_words.specs.Bounds.{Bounds}
 use Rattle.iofd_words.specs.Pins.{ObjectPage}
 use Rattle.iofd_words.specs.Span.{meets}
@@ -19,21 +18,6 @@ use Rattle.user_memory.specs.Memory.{new_in_runs, pinned_frame, rows_of, run_lie
 -- the areas that meet the span
 abbrev pub meeting : Bounds → List Area → List Area
 meeting span areas = filter (λ area. meets area.span span) areas
-
--- the span goes on to where the areas at its ends begin and end
-abbrev pub first_of : ℕ → Option Area → ℕ
-first_of n None = n
-first_of n (Some area) = area.span.first
-
-abbrev pub last_of : ℕ → Option Area → ℕ
-last_of n None = n
-last_of n (Some area) = area.span.last
-
-abbrev pub hull : Bounds → List Area → Bounds
-hull span areas = record {
-  first = first_of span.first (area_at span.first areas);
-  last = last_of span.last (area_at span.last areas);
-}
 
 -- which of its memory object's pages the area has in the span
 abbrev pub run_in : Bounds → Area → PageRun

@@ -1,9 +1,12 @@
 -- How many pages several runs have that aren't pinned, where each counts once: for the last run that has it.
 use Rattle.std.proofs.Common.{◌≡◌, ℕ, ◌+◌, ◌-◌, ◌^◌, ◌≤◌, ◌<◌, Bool, true, false, cond, ◌&&◌, ◌||◌, not, eqb, leb, ltb}
 use Rattle.std.proofs.Common.{List, [], ◌∷◌, length, Option, Some, None, refl, sym, ap, ◌∙◌, arith}
-use Rattle.std.specs.List.{count_by, filter}
+use Rattle.std.specs.List.{count_by, filter, range_with_len}
+use Rattle.std.specs.Prelude.{is_none}
 use Rattle.std.proofs.lemmas.Bool.{eqb-true}
 use Rattle.std.proofs.lemmas.Bool.Decides.{nat_tests}
+use Rattle.std.proofs.lemmas.List.{length-map}
+use Rattle.std.proofs.lemmas.List.FromFn.{length-range_with_len}
 use Rattle.std.proofs.lemmas.List.Sums.{count_by-le-length, length-filter}
 use Rattle.access_pages.specs.Runs.{run_in, runs_in}
 use Rattle.iofd_rows.proofs.Bools.{and_true, both_true}
@@ -19,10 +22,11 @@ use Rattle.iofd_words.specs.View.{View}
 use Rattle.iofd_words.specs.declared.numbers.UserNo.{UserNo}
 use Rattle.iofd_words.specs.declared.rows.Area.{Area}
 use Rattle.iofd_words.specs.declared.rows.MemoryObject.{MemoryObject}
-use Rattle.memory_objects.specs.Objects.{row_of}
+use Rattle.memory_objects.specs.Objects.{are_rising, row_of}
 use Rattle.memory_objects.specs.Runs.{covers}
 use Rattle.memory_objects.specs.declared.run.PageRun.{PageRun}
 use Rattle.user_memory.proofs.Found.{kept_count}
+use Rattle.user_memory.proofs.RunPages.{lies_told, new_told}
 use Rattle.user_memory.specs.Invariant.{ObjectsTell, is_kept}
 use Rattle.user_memory.specs.Memory.{Memory, is_in_runs, new_in_runs, pinned_frame, rows_of, run_lies}
 use Rattle.user_memory_rows.proofs.Counts.{count_alike, count_fewer, count_split, count_within}
@@ -296,6 +300,19 @@ module _ (m : Memory) where
       let b = (and_true (eqb row.number run.number) (leb (run.first + run.count) row.count) both).1 in
       search (b, arith, nat_tests) in
       omega (arith, few, count, high)
+
+  -- a run has no more pages than it says
+  pub run_most : (run : PageRun) → run_lies m run ≡ true → are_rising m.objects ≡ true
+      → length (new_in_runs m (run ∷ [])) ≤ run.count
+  run_most run lies rising =
+      let own = λ (i : ℕ). is_none (pinned_frame m (record { memory = run.number; index = i })) in
+      let all = range_with_len run.first run.count in
+      let is = ap length (new_told m run rising (sym (lies_told run m.objects rising) ∙ lies))
+      ∙ length-map (filter own all) (λ i. record { memory = run.number; index = i })
+      ∙ length-filter own all in
+      let most = count_by-le-length own all in
+      let long = length-range_with_len run.first run.count in
+      omega (arith, is, most, long)
 
   -- ---- area by area
 

@@ -6,7 +6,7 @@ use Rattle.std.proofs.Math.Nat.{div-add-mod}
 use Rattle.std.specs.List.{list_all, list_any}
 use Rattle.std.proofs.lemmas.Bool.{eqb-true}
 use Rattle.std.proofs.lemmas.Bool.Decides.{nat_tests}
-use Rattle.access_pages.proofs.Hulls.{place_of}
+use Rattle.access_pages.proofs.Places.{place_of}
 use Rattle.access_pages.specs.Runs.{meeting, run_in, runs_in, times_in}
 use Rattle.access_pins.proofs.RunPages.{run_fits}
 use Rattle.access_pins.proofs.Spanned.{area_pages, span_pages, times_spanned}

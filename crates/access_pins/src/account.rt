@@ -34,6 +34,11 @@ pub(crate) fn passes_limit<A: Allocator>(
     ensures { result ≡ passes_limit (seen state.now) (user_of state.now.config file)
         (length (new_in_runs state.now.memory (runs.runs_in span areas.entry))) }
 {
+    // Where the user may have them all, it doesn't matter which are pinned already.
+    let all = all_pages(areas.again(), span, &state.memory);
+    if !accounts::passes_limit(state, file, all) {
+        return false;
+    }
     let most = most_new_pages(areas.again(), span, &state.memory);
     if !accounts::passes_limit(state, file, most) {
         return false;
@@ -41,6 +46,23 @@ pub(crate) fn passes_limit<A: Allocator>(
     // Only here does it matter what areas share.
     let count = new_pages(areas, span, &state.memory);
     accounts::passes_limit(state, file, count)
+}
+
+/// How many pages these areas, which meet the span, have in it, pinned or not: a pin of the span pins no more than that.
+/// It looks at no page.
+fn all_pages<A: Allocator>(areas: Iter<'_, A>, span: Span, memory: &UserMemory<A>) -> u128
+    requires met { list_all (λ area. meets area.span span) areas ≡ true }
+    requires lies { list_all (run_lies memory.now) (runs.runs_in span areas) ≡ true }
+    requires few { length areas ≤ most_areas }
+    ensures { length (new_in_runs memory.now (runs.runs_in span areas.entry)) ≤ result }
+{
+    // Of an object no page counts twice.
+    memory.objects_told();
+    let mut count = 0;
+    for area in areas {
+        count += u128::from(run_in(area, span).count);
+    }
+    count
 }
 
 /// How many pages these areas, which meet the span, have in it that aren't pinned, where one that several areas share

@@ -7,7 +7,7 @@ ghost use Rattle.std.specs.List.{list_any};
 ghost use Rattle.std.specs.Option.{option_copied};
 ghost use Rattle.area_map_rows.specs.Areas.{AreKept, with_area, area_of, is_covered, IsCovered, HasGap, marked};
 ghost use Rattle.area_map_rows.specs.Areas.{HasNoneFree, IsFirstFree};
-ghost use Rattle.area_map_rows.specs.Areas.{without_debt, areas_within, areas_outside, tried};
+ghost use Rattle.area_map_rows.specs.Areas.{without_debt, areas_meeting, areas_within, areas_outside, tried};
 ghost use Rattle.iofd_words.specs.Areas.{areas_meet, has_no_room, is_cut, area_at, most_tries};
 ghost use Rattle.iofd_words.specs.TablePlaces.{is_live};
 ghost use Rattle.area_map.specs.Insertion.{insert_refusal};
@@ -178,6 +178,14 @@ impl<A: Allocator> Areas<A> {
         ensures kept { AreKept self.now.areas }
     {
         lookups::within(&self.rows, span)
+    }
+
+    /// The areas that meet the span, of any phase, by rising start. One search finds them; it takes no memory.
+    pub fn meeting(&self, span: Span) -> Iter<'_, A>
+        ensures value { result ≡ areas_meeting span self.now.areas }
+        ensures kept { AreKept self.now.areas }
+    {
+        lookups::meeting(&self.rows, span)
     }
 
     /// Adds an area, before the first that begins after it.

@@ -2,6 +2,7 @@ pub mod Found
 pub mod Added
 pub mod Covers
 pub mod Within
+pub mod Meeting
 pub mod Kept
 pub mod Rows
 pub mod RowsFound

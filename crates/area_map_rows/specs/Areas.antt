@@ -6,7 +6,7 @@ use Rattle.std.specs.Prelude.{find, if◌then◌else◌}
 use Rattle.std.specs.List.{list_any}
 use Rattle.iofd_words.specs.Areas.{area_at, areas_meet, leaving, most_areas, paid, with_tries}
 use Rattle.iofd_words.specs.Bounds.{Bounds}
-use Rattle.iofd_words.specs.Span.{lies_in, holds, size_of, span_from}
+use Rattle.iofd_words.specs.Span.{lies_in, holds, meets, size_of, span_from}
 use Rattle.iofd_words.specs.declared.numbers.DeviceNo.{DeviceNo}
 use Rattle.iofd_words.specs.declared.rows.Area.{Area}
 use Rattle.area_map_rows.specs.declared.marking.Change.{Change}
@@ -88,6 +88,18 @@ areas_within span areas = filter (λ area. lies_in area.span span) areas
 -- the others
 abbrev pub areas_outside : Bounds → List Area → List Area
 areas_outside span areas = filter (λ area. not (lies_in area.span span)) areas
+
+-- the areas that meet the span
+abbrev pub areas_meeting : Bounds → List Area → List Area
+areas_meeting span areas = filter (λ area. meets area.span span) areas
+
+-- where the area ends that holds the address, among areas by rising start; the address itself where none does
+abbrev pub end_from : ℕ → List Area → ℕ
+end_from address [] = address
+end_from address (area ∷ areas) =
+    if nat_le address area.span.last
+    then (if nat_le area.span.first address then area.span.last else address)
+    else end_from address areas
 
 -- how many addresses they have together
 abbrev pub bytes_of : List Area → ℕ

@@ -1,10 +1,11 @@
 //! Look-ups in areas by rising start, by binary search for the row and then in it.
 
 ghost use Rattle.std.specs.Prelude.{◌≡◌, ◌+◌, ◌≤◌, drop, filter, find, min, nat_lt, nat_le, length};
-ghost use Rattle.std.specs.Prelude.{MatchBool, Some};
+ghost use Rattle.std.specs.Prelude.{MatchBool, Some, if◌then◌else◌};
 ghost use Rattle.std.specs.List.{prefix_len};
 ghost use Rattle.std.specs.Option.{option_copied};
 ghost use Rattle.area_map_rows.specs.Areas.{AreApart, area_of, ends_after, runs_on, areas_within, is_covered};
+ghost use Rattle.area_map_rows.specs.Areas.{areas_meeting, end_from};
 ghost use Rattle.area_map_rows.specs.Areas.{IsCovered};
 ghost use Rattle.area_map_rows.specs.Areas.{HasGap};
 ghost use Rattle.area_map_rows.specs.Rows.{in_rows, AreRows, end_of};
@@ -277,4 +278,43 @@ pub fn within<A: Allocator>(rows: &[Row<A>], span: Span) -> Iter<'_, A>
     let areas = row.areas();
     let front = &areas[count_before(areas, span.first())..];
     Iter::new(front, others, Some(span.last()))
+}
+
+/// The areas that meet the span. They stand side by side, and one search finds the first.
+pub fn meeting<A: Allocator>(rows: &[Row<A>], span: Span) -> Iter<'_, A>
+    requires apart { AreApart (in_rows rows.now) }
+    requires rows { AreRows rows.now }
+    ensures { result ≡ areas_meeting span (in_rows rows.now) }
+{
+    let rest = rows_from(rows, rows_below(rows, span.first()));
+    let Some((row, others)) = rest.split_first() else {
+        return Iter::new(&[], rest, None);
+    };
+    let areas = row.areas();
+    let front = &areas[count_below(areas, span.first())..];
+    let end = end_from(Iter::new(front, others, None), span.last());
+    Iter::new(front, others, Some(end))
+}
+
+// Where the area ends that holds the address; the address itself where none does. It looks at no area behind.
+fn end_from<A: Allocator>(areas: Iter<'_, A>, address: u64) -> u64
+    ensures { result ≡ end_from address areas.entry }
+{
+    for area in areas {
+        if address <= area.span.last() {
+            return end_over(area, address);
+        }
+    }
+    address
+}
+
+// Where the area, which ends at the address or after it, ends if it holds the address; else the address.
+fn end_over(area: &Area, address: u64) -> u64
+    ensures { result ≡ (if nat_le area.now.span.first address then area.now.span.last else address) }
+{
+    if area.span.first() <= address {
+        area.span.last()
+    } else {
+        address
+    }
 }

@@ -7,7 +7,7 @@ use Rattle.std.specs.Cmp.{nat_cmp_total, unsigned_ties}
 use Rattle.std.specs.FinMap.{nat_cmp-IsAntisymmetric}
 use Rattle.std.specs.FinMap.Entries.{find, find-put, is_sorted, is_sorted-put, same_entries, below_all}
 use Rattle.std.specs.List.{AllByRecursion, IsDistinct, count_by, range_with_len}
-use Rattle.std.specs.Map.{keys_of}
+use Rattle.std.specs.Map.{keys_of, lookup, set_value}
 use Rattle.std.specs.Ordering.{nat_cmp, eq_by_cmp, is_lt}
 use Rattle.std.specs.Result.{IsOk, OnOk}
 use Rattle.std.proofs.lemmas.Bool.{and_parts, cases_Bool, cases_eq, eqb-true}
@@ -180,6 +180,38 @@ all_counted n (e ∷ es) rising each =
     let rest = all_counted n es parts.1 (λ i pin is.
     let apart = behind e.0 e.1 es parts.0 i pin is in each i pin (rw apart is)) in
     rw (low, some) rest
+
+-- so they are where a page that some pins stand on has others
+pub changed_counted : (n index : ℕ) (old new : AccessRows) (was pin : AccessPin) → T (is_sorted nat_cmp new)
+    → row_at old index ≡ Some was → 0 < pin.pins
+    → ((i : ℕ) → row_at new i ≡ cond (eqb index i) (Some pin) (row_at old i))
+    → are_counted n old ≡ true → are_counted n new ≡ true
+changed_counted n index old new was pin rising there some rows all =
+    all_counted n new rising
+    (λ i one is. by_index i (eqb index i) refl one (sym (rows i) ∙ is) (found_counted n old all i one))
+  where
+    by_index : (i : ℕ) (b : Bool) → eqb index i ≡ b → (one : AccessPin) → cond b (Some pin) (row_at old i) ≡ Some one
+        → (row_at old i ≡ Some one → (i < n) × (0 < one.pins)) → (i < n) × (0 < one.pins)
+    by_index i true here one is later =
+        let key = eqb-true index i here in
+        let same : pin ≡ one = cc in
+        let low = (found_counted n old all index was there).0 in
+        (omega (arith, low, key), subst (λ (p : AccessPin). 0 < p.pins) same some)
+    by_index i false other one is later = later is
+
+-- a row that is written once more changes nothing
+pub set_same : (test : ℕ → Bool) (es : Entries) (pin : AccessPin) → lookup test es ≡ Some pin
+    → set_value test es pin ≡ es
+set_same test [] pin found = cc
+set_same test (e ∷ es) pin found = by_test (test e.0) found (set_same test es pin)
+  where
+    by_test : (b : Bool) → cond b (Some e.1) (lookup test es) ≡ Some pin
+        → (lookup test es ≡ Some pin → set_value test es pin ≡ es)
+        → cond b ((e.0, pin) ∷ es) (e ∷ set_value test es pin) ≡ e ∷ es
+    by_test true here rest =
+        let same : e.1 ≡ pin = cc in
+        ap (λ (p : AccessPin). (e.0, p) ∷ es) (sym same)
+    by_test false later rest = ap (λ others. e ∷ others) (rest later)
 
 pub from_ok : {X Y : Type 0} (r : Result X Y) (P : Type 0) → IsOk r → OnOk r P → P
 from_ok (Ok x) P ok said = said

@@ -1,10 +1,11 @@
 //! The pages that accesses pin, by hash: a page's row is found at once, and one more or one less moves at most one
 //! other. Memory grows with these pages, whatever else their object has.
 
-ghost use Rattle.std.specs.Prelude.{ℕ, ◌≡◌, ◌==◌, ◌<◌, ◌≤◌, ◌+◌, [], None, IsTrue, IsSome, OnOk, OnErr};
-ghost use Rattle.std.specs.Prelude.{is_some, if◌then◌else◌};
+ghost use Rattle.std.specs.Prelude.{ℕ, ◌≡◌, ◌==◌, ◌<◌, ◌≤◌, ◌+◌, ◌-◌, ◌^◌, [], None, Some, IsTrue, IfSome, IfNone};
+ghost use Rattle.std.specs.Prelude.{OnOk, OnErr};
+ghost use Rattle.std.specs.Prelude.{is_some, nat_le, if◌then◌else◌};
 ghost use Rattle.std.specs.List.{count_by, range_with_len};
-ghost use Rattle.pinned_pages.specs.Access.{are_counted, frame_in, row_at};
+ghost use Rattle.pinned_pages.specs.Access.{are_counted, frame_in, pins_in, row_at};
 
 use iofd_words::{FrameNo, NoMemory};
 use std::alloc::{Allocator, Global};
@@ -73,6 +74,13 @@ impl<A: Allocator> AccessPins<A> {
         }
     }
 
+    /// Whether there is room for so many more pages.
+    pub(crate) fn has_room(&self, more: u64) -> bool
+        ensures { result ≡ nat_le more self.now.room }
+    {
+        more <= (self.rows.capacity() - self.rows.len()) as u64
+    }
+
     /// Makes room for so many more pages. Its only error is want of memory, which leaves the pages; some more room may
     /// have come before it.
     pub(crate) fn reserve(&mut self, more: u64) -> Result<(), NoMemory>
@@ -84,7 +92,7 @@ impl<A: Allocator> AccessPins<A> {
         ensures room { self.old.room ≤ self.new.room }
         ensures enough { more ≤ self.old.room → self.new.room ≡ self.old.room }
     {
-        if self.rows.capacity() - self.rows.len() >= more as usize {
+        if self.has_room(more) {
             return Ok(());
         }
         if self.rows.reserve(more as usize).is_err() {
@@ -108,17 +116,47 @@ impl<A: Allocator> AccessPins<A> {
         let _ = self.rows.insert(index, AccessPin { frame, pins: 1 });
     }
 
-    /// So many pins stand on this page, which has some. It takes no memory.
-    pub(crate) fn set(&mut self, index: u64, pin: AccessPin)
-        requires there { IsSome (row_at self.old.rows index) }
-        ensures rows { (other : ℕ) → row_at self.new.rows other
-            ≡ (if index == other then Some pin else row_at self.old.rows other) }
-        ensures counted { (count : ℕ) → 0 < pin.pins → IsTrue (are_counted count self.old.rows)
+    /// Puts one pin more on a page on which some stand: what its row was. None where none stands, and then it does
+    /// nothing. It takes no memory.
+    pub(crate) fn pin_again(&mut self, index: u64) -> Option<AccessPin>
+        requires { pins_in (row_at self.old.rows index) + 1 < 2 ^ 64 }
+        ensures before { result ≡ row_at self.old.rows index }
+        ensures rows { IfSome result (λ pin. (other : ℕ) → row_at self.new.rows other
+            ≡ (if index == other then Some (record { frame = pin.frame; pins = pin.pins + 1 })
+            else row_at self.old.rows other)) }
+        ensures counted { (count : ℕ) → IsTrue (are_counted count self.old.rows)
             → IsTrue (are_counted count self.new.rows) }
+        ensures none { IfNone result (self.new ≡ self.old) }
         ensures room { self.new.room ≡ self.old.room }
     {
-        if let Some(row) = self.rows.get_mut(&index) {
-            *row = pin;
+        let row = self.rows.get_mut(&index)?;
+        let before = *row;
+        row.pins += 1;
+        Some(before)
+    }
+
+    /// Takes one pin off a page on which more than one stand: what its row was. None where no more stand, and then it
+    /// does nothing. It takes no memory.
+    pub(crate) fn unpin_one(&mut self, index: u64) -> Option<AccessPin>
+        ensures before { IfSome result (λ pin. row_at self.old.rows index ≡ Some pin) }
+        ensures more { IfSome result (λ pin. 1 < pin.pins) }
+        ensures rows { IfSome result (λ pin. (other : ℕ) → row_at self.new.rows other
+            ≡ (if index == other then Some (record { frame = pin.frame; pins = pin.pins - 1 })
+            else row_at self.old.rows other)) }
+        ensures counted { (count : ℕ) → IsTrue (are_counted count self.old.rows)
+            → IsTrue (are_counted count self.new.rows) }
+        ensures few { IfNone result (pins_in (row_at self.old.rows index) ≤ 1) }
+        ensures none { IfNone result (self.new ≡ self.old) }
+        ensures room { self.new.room ≡ self.old.room }
+    {
+        match self.rows.get_mut(&index) {
+            Some(row) if row.pins > 1 => {
+                let before = *row;
+                row.pins -= 1;
+                Some(before)
+            }
+            Some(_) => None,
+            None => None,
         }
     }
 

@@ -14,7 +14,6 @@ ghost use Rattle.pinned_pages.specs.Holds.{AreHeld, HasMoreHolds, times};
 ghost use Rattle.pinned_pages.specs.Pages.{access_pins, frame_now, frame_of, held_frames, or_else, pinned_count};
 
 use super::{Pages, refused};
-use crate::access_pins::AccessPin;
 use crate::frames;
 use frame_memory::{Pool, UserMap};
 use iofd_words::{CallError, Cause, NoMemory};
@@ -86,6 +85,10 @@ impl<A: Allocator> Pages<A> {
         ensures room { self.old.room ≤ self.new.room }
         ensures enough { run_rows self.old.pages first count ≤ self.old.room → self.new ≡ self.old }
     {
+        // Where there is room for all of them, it doesn't matter how many have a row.
+        if self.access.has_room(count) {
+            return Ok(());
+        }
         let rows = self.new_rows(first, count);
         self.access.reserve(rows)
     }
@@ -179,18 +182,18 @@ impl<A: Allocator> Pages<A> {
             count }
     {
         let user = self.user;
-        let _ = accounts.charge(user, self.new_in_run(first, count));
-        self.pin_pages(first, count, users, pool);
+        let new = self.pin_pages(first, count, users, pool);
+        let _ = accounts.charge(user, new);
     }
 
-    /// Puts one pin by an access on each page of a run. It takes no memory.
+    /// Puts one pin by an access on each page of a run. How many of them nothing pinned before. It takes no memory.
     fn pin_pages<B: Allocator, C: Allocator>(
         &mut self,
         first: u64,
         count: u64,
         users: &UserMap<B>,
         pool: &mut Pool<C>,
-    )
+    ) -> u64
     where
         A: Copy,
         requires run { first + count ≤ self.old.pages.count }
@@ -202,22 +205,27 @@ impl<A: Allocator> Pages<A> {
         ensures pages { IsAccessPinned first count users.now.pages self.old.pages self.new.pages }
         ensures capacity { self.new.capacity ≡ self.old.capacity }
         ensures pool { HasMoreHolds pool.old pool.new (run_frames self.old.pages users.now.pages first count) }
+        ensures anew { result ≡ run_count self.old.pages first count }
     {
         // As many pages as an object has can be counted.
         let all = self.count;
         prove!(count <= all);
+        let mut new = 0;
         for at in 0..count {
-            self.pin_page(first + at, users, pool);
+            if self.pin_page(first + at, users, pool) {
+                new += 1;
+            }
         }
+        new
     }
 
-    /// Puts one pin by an access on a page. It takes no memory.
+    /// Puts one pin by an access on a page. Whether nothing pinned it before. It takes no memory.
     fn pin_page<B: Allocator, C: Allocator>(
         &mut self,
         index: u64,
         users: &UserMap<B>,
         pool: &mut Pool<C>,
-    )
+    ) -> bool
     where
         A: Copy,
         requires within { index < self.old.pages.count }
@@ -232,19 +240,16 @@ impl<A: Allocator> Pages<A> {
         ensures capacity { self.new.capacity ≡ self.old.capacity }
         ensures room { self.old.room ≤ self.new.room + run_rows self.old.pages index 1 }
         ensures pool { HasMoreHolds pool.old pool.new (run_frames self.old.pages users.now.pages index 1) }
+        ensures anew { result ≡ is_none (frame_of self.old.pages index) }
     {
-        if let Some(pin) = self.access.get(index) {
-            let more = AccessPin {
-                frame: pin.frame,
-                pins: pin.pins + 1,
-            };
-            self.access.set(index, more);
-            return;
+        if let Some(_) = self.access.pin_again(index) {
+            return false;
         }
         let pinned = frames::frame_of(&self.frames, index);
         if let Some(frame) = frames::hold_page(pinned, users, pool, self.user, self.va, index) {
             self.access.add(index, frame);
         }
+        pinned.is_none()
     }
 
     /// Takes one pin by an access off each page of a run, so many from `first` on. A page that something still pins
@@ -328,17 +333,12 @@ impl<A: Allocator> Pages<A> {
         ensures pool { HasMoreHolds pool.new pool.old (gone_frames self.old.pages index 1) }
         ensures last { result ≡ is_last self.old.pages index }
     {
+        if let Some(_) = self.access.unpin_one(index) {
+            return false;
+        }
         let Some(pin) = self.access.get(index) else {
             return false;
         };
-        if pin.pins > 1 {
-            let fewer = AccessPin {
-                frame: pin.frame,
-                pins: pin.pins - 1,
-            };
-            self.access.set(index, fewer);
-            return false;
-        }
         self.access.remove(index);
         if self.table_pins > 0 {
             return false;

@@ -6,6 +6,7 @@ use Rattle.pinned_pages.proofs.AccessRuns.{frame_behind, frames_next, pinned_nex
 use Rattle.pinned_pages.proofs.HoldsMove.{page_room}
 use Rattle.pinned_pages.proofs.Runs.{counted_few, counted_more, if_none}
 use Rattle.pinned_pages.proofs.pages.Pages.pin_pages.Goals as goal
+use Rattle.pinned_pages.proofs.pages.Pages.pin_pages.Goals.{then-pin_page, else-pin_page}
 
 pub pin_page-requires-clause-holds : goal.pin_page-requires-clause-holds
 pin_page-requires-clause-holds g c =
@@ -60,11 +61,33 @@ loop-at-preserved g c =
     let before = c.loop-at.invariant.pinned in
     let next : first + k ≡ first + k = refl in
     let rest = rows_next first k (first + k) rows old mid next before in
-    record {
-      pinned = pinned_next first k (first + k) rows old mid next before c.pin_page.new.self.pages
-          c.pin_page.ensures.pages;
-      capacity = c.pin_page.ensures.capacity ∙ c.loop-at.invariant.capacity;
-      room = omega (arith, rest, c.pin_page.ensures.room, c.loop-at.invariant.room);
-      held = frames_next first k (first + k) rows old mid next before c.args.pool.now c.loop-at.pool
-          c.pin_page.new.pool c.loop-at.invariant.held c.pin_page.ensures.pool;
-    }
+    let pinned = pinned_next first k (first + k) rows old mid next before c.pin_page.new.self.pages
+    c.pin_page.ensures.pages in
+    let capacity = c.pin_page.ensures.capacity ∙ c.loop-at.invariant.capacity in
+    let held = frames_next first k (first + k) rows old mid next before c.args.pool.now c.loop-at.pool
+    c.pin_page.new.pool c.loop-at.invariant.held c.pin_page.ensures.pool in
+    let more = counted_more (λ (i : ℕ). is_none (frame_of old i)) first k (first + k) next in
+    let anew = ap is_none (sym (frame_behind first k (first + k) rows old mid next before))
+    ∙ sym c.pin_page.ensures.anew in
+    elim c.if-pin_page.branch [
+      | then-pin_page w ↦
+          let one = ap {B = ℕ} (λ b. cond b 1 0) (anew ∙ w.if-pin_page.true) in
+          rw w.new-is (record {
+            pinned = pinned;
+            capacity = capacity;
+            room = omega (arith, rest, c.pin_page.ensures.room, c.loop-at.invariant.room);
+            held = held;
+            anew = omega (arith, more, one, c.loop-at.invariant.anew);
+            few = omega (arith, c.loop-at.invariant.few);
+          })
+      | else-pin_page w ↦
+          let zero = ap {B = ℕ} (λ b. cond b 1 0) (anew ∙ w.if-pin_page.false) in
+          rw w.new-is (record {
+            pinned = pinned;
+            capacity = capacity;
+            room = omega (arith, rest, c.pin_page.ensures.room, c.loop-at.invariant.room);
+            held = held;
+            anew = omega (arith, more, zero, c.loop-at.invariant.anew);
+            few = omega (arith, c.loop-at.invariant.few);
+          })
+    ]

@@ -1,0 +1,34 @@
+use Rattle.std.proofs.Common.{◌∙◌, sym, arith}
+use Rattle.std.proofs.lemmas.Bool.Decides.{nat_tests}
+use Rattle.std.proofs.lemmas.List.{nil_from_length, take_rest}
+use Rattle.iofd_words.specs.Span.{meets}
+use Rattle.iofd_words.specs.declared.rows.Area.{Area}
+use Rattle.area_map_rows.proofs.Meeting.{meeting_rows}
+use Rattle.area_map_rows.proofs.RowsWithin.{reaching_none}
+use Rattle.area_map_rows.proofs.lookups.meeting.Goals as goal
+
+pub returns-in_default : goal.returns-in_default
+returns-in_default g c =
+    let none = nil_from_length c.rows_from-rest.result.now c.in_default.ensures.cases in
+    let value = rw (c.rows_below.ensures.value, c.first.ensures.value) at c.rows_from-rest.ensures.value in
+    c.new.ensures ∙ rw none (reaching_none (λ (a : Area). meets a.span c.args.span) c.args.span.first
+    (λ a ordered below. grind (arith, nat_tests)) c.args.rows.now c.requires.rows c.requires.apart (sym value
+    ∙ none))
+
+pub returns : goal.returns
+returns g c =
+    let row = c.in-Some.row.now in
+    let others = c.in-Some.others.now in
+    let is = c.in-Some.ensures.cases.0 in
+    let value = rw (c.rows_below.ensures.value, c.first.ensures.value) at c.rows_from-rest.ensures.value in
+    c.new-3.ensures ∙ rw (
+      c.end_from-end.ensures,
+      c.new-2.ensures,
+      take_rest c.areas-areas.result.now c.count_below.result,
+      c.last.ensures.value,
+      c.count_below.ensures.value,
+      c.first-2.ensures.value,
+      c.areas-areas.ensures,
+    )
+    (meeting_rows c.args.span c.args.rows.now others row c.requires.rows c.requires.apart
+    (sym value ∙ is))
