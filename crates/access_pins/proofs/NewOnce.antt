@@ -305,10 +305,11 @@ module _ (m : Memory) where
   pub run_most : (run : PageRun) → run_lies m run ≡ true → are_rising m.objects ≡ true
       → length (new_in_runs m (run ∷ [])) ≤ run.count
   run_most run lies rising =
-      let own = λ (i : ℕ). is_none (pinned_frame m (record { memory = run.number; index = i })) in
+      let page : ℕ → ObjectPage = λ i. record { memory = run.number; index = i } in
+      let own = λ (i : ℕ). is_none (pinned_frame m (page i)) in
       let all = range_with_len run.first run.count in
       let is = ap length (new_told m run rising (sym (lies_told run m.objects rising) ∙ lies))
-      ∙ length-map (filter own all) (λ i. record { memory = run.number; index = i })
+      ∙ length-map (filter own all) page
       ∙ length-filter own all in
       let most = count_by-le-length own all in
       let long = length-range_with_len run.first run.count in
