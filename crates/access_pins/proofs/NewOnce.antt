@@ -1,7 +1,7 @@
 -- How many pages several runs have that aren't pinned, where each counts once: for the last run that has it.
 use Rattle.std.proofs.Common.{◌≡◌, ℕ, ◌+◌, ◌-◌, ◌^◌, ◌≤◌, ◌<◌, Bool, true, false, cond, ◌&&◌, ◌||◌, not, eqb, leb, ltb}
 use Rattle.std.proofs.Common.{List, [], ◌∷◌, length, Option, Some, None, refl, sym, ap, ◌∙◌, arith}
-use Rattle.std.specs.List.{count_by, filter, range_with_len}
+use Rattle.std.specs.List.{count_by, filter, list_all, range_with_len}
 use Rattle.std.specs.Prelude.{is_none}
 use Rattle.std.proofs.lemmas.Bool.{eqb-true}
 use Rattle.std.proofs.lemmas.Bool.Decides.{nat_tests}
@@ -314,6 +314,15 @@ module _ (m : Memory) where
       let most = count_by-le-length own all in
       let long = length-range_with_len run.first run.count in
       omega (arith, is, most, long)
+
+  -- what the first of some areas has in the span lies in its object, where all do
+  pub first_lies : (span : Bounds) (all rest : List Area) (area : Area) → all ≡ area ∷ rest
+      → list_all (run_lies m) (runs_in span all) ≡ true → (run : PageRun) → run ≡ run_in span area
+      → run_lies m run ≡ true
+  first_lies span all rest area steps lies run same =
+      ap (run_lies m) same
+      ∙ (and_true (run_lies m (run_in span area)) (list_all (run_lies m) (runs_in span rest))
+      (ap (λ (l : List Area). list_all (run_lies m) (runs_in span l)) (sym steps) ∙ lies)).0
 
   -- ---- area by area
 

@@ -1,11 +1,10 @@
-use Rattle.std.proofs.Common.{◌≡◌, ◌+◌, ◌∷◌, ◌∙◌, List, true, length, suc, ap, refl, subst, sym, arith}
+use Rattle.std.proofs.Common.{◌≡◌, ◌+◌, ◌∷◌, ◌∙◌, List, length, suc, ap, refl, sym, arith}
 use Rattle.std.specs.List.{list_all}
 use Rattle.access_pages.specs.Runs.{run_in, runs_in}
-use Rattle.access_pins.proofs.NewOnce.{area_most, no_runs, run_most}
+use Rattle.access_pins.proofs.NewOnce.{area_most, first_lies, no_runs, run_few, run_most}
 use Rattle.iofd_rows.proofs.Bools.{and_true}
 use Rattle.iofd_words.specs.Span.{meets}
 use Rattle.iofd_words.specs.declared.rows.Area.{Area}
-use Rattle.memory_objects.specs.declared.run.PageRun.{PageRun}
 use Rattle.user_memory.specs.Memory.{new_in_runs, run_lies}
 use Rattle.access_pins.proofs.account.all_pages.Goals as goal
 
@@ -21,11 +20,10 @@ loop-area-preserved g c =
     let longer : length (area ∷ left) ≡ suc (length left) = refl in
     let more = area_most m span c.loop-area.area-iterator left area c.in-Some.ensures.steps c.run_in.result
     c.run_in.ensures in
-    let lies = and_true (run_lies m (run_in span area)) (list_all (run_lies m) (runs_in span left))
-    (ap (λ (l : List Area). list_all (run_lies m) (runs_in span l)) (sym c.in-Some.ensures.steps) ∙ before.lies) in
-    let L : PageRun → Type 0 = λ run. run_lies m run ≡ true in
-    let own = run_most m c.run_in.result (subst L (sym c.run_in.ensures) lies.0) c.objects_told.ensures.memory.rising in
-    let wide = c.run_in.type_inv in
+    let lies = first_lies m span c.loop-area.area-iterator left area c.in-Some.ensures.steps before.lies c.run_in.result
+    c.run_in.ensures in
+    let own = run_most m c.run_in.result lies c.objects_told.ensures.memory.rising in
+    let wide = run_few m c.run_in.result lies c.objects_told.ensures in
     let from = c.from-count.ensures in
     let few = before.few in
     let most = before.most in
@@ -33,7 +31,9 @@ loop-area-preserved g c =
       met = (and_true (meets area.span span) (list_all (λ (a : Area). meets a.span span) left)
           (ap (λ (l : List Area). list_all (λ (a : Area). meets a.span span) l) (sym c.in-Some.ensures.steps)
           ∙ before.met)).1;
-      lies = lies.1;
+      lies = (and_true (run_lies m (run_in span area)) (list_all (run_lies m) (runs_in span left))
+          (ap (λ (l : List Area). list_all (run_lies m) (runs_in span l)) (sym c.in-Some.ensures.steps)
+          ∙ before.lies)).1;
       done = before.done + 1;
       counts = omega (arith, counts, longer);
       few = omega (arith, few, wide, from);
@@ -54,6 +54,8 @@ overflow_add-count g c =
     let counts = before.counts in
     let many = c.requires.few in
     let few = before.few in
-    let wide = c.run_in.type_inv in
+    let lies = first_lies c.args.memory.now c.args.span c.loop-area.area-iterator c.next.new.self c.in-Some.area.now
+    c.in-Some.ensures.steps before.lies c.run_in.result c.run_in.ensures in
+    let wide = run_few c.args.memory.now c.run_in.result lies c.objects_told.ensures in
     let from = c.from-count.ensures in
     omega (arith, counts, many, few, wide, from)
