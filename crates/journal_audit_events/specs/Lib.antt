@@ -1,3 +1,4 @@
+pub mod Asked
 pub mod Gone
 pub mod Outcomes
 pub mod Served

@@ -16,7 +16,10 @@ is_served e = true
 abbrev pub needs_none : {A : Type 0} → Event A → Bool
 needs_none (event.IoasAlloc file) = false
 needs_none (event.AllowIovas file ioas ranges) = false
+needs_none (event.Destroy file id) = false
 needs_none (event.Close file) = false
+needs_none (event.Detach device) = false
+needs_none (event.AccessUnpin file id request) = false
 needs_none (event.UserMap user va) = false
 needs_none (event.Bind file device) = false
 needs_none (event.AccessCreate file) = false

@@ -12,7 +12,8 @@ ghost use Rattle.journal_audit_world.specs.Kept.{IsKept};
 ghost use Rattle.journal_audit_world.specs.Unwritten.{unwritten};
 
 use iofd_words::{Cause, FileNo, NoMemory, Object, Reply};
-use journal_audit_world::{World, allowed, areas, attachments, objects, pins};
+use journal_audit_index::Numbers;
+use journal_audit_world::{World, allowed, areas, attachments, keeping, objects, over};
 use std::alloc::Allocator;
 
 /// Why it is refused, if it is.
@@ -41,7 +42,8 @@ fn has_holder(objects: &[Object], file: FileNo) -> bool
 
 /// What comes of it, where nothing refuses it, at this position. Its only error is want of memory.
 #[tactic(auto, unfolding(iofd_words::specs::After::changed))]
-pub fn change<A: Allocator>(
+pub fn change<A: Allocator + Copy>(
+    alloc: A,
     at: u64,
     world: &mut World<A>,
     file: FileNo,
@@ -55,17 +57,20 @@ pub fn change<A: Allocator>(
     let Reply::Done = reply else {
         return Ok(());
     };
+    let mut asked = Numbers::new(alloc);
+    over::add_of_file(&mut asked, &world.areas, file)?;
     world.closed.push(file)?;
     areas::remove_of_file(&mut world.areas, file);
-    pins::keep_used(&mut world.memory, &world.areas);
+    keeping::keep_used(alloc, &mut world.memory, &world.areas, &asked)?;
     objects::remove_of_file(&mut world.objects, file);
     attachments::remove_of_file(&mut world.attachments, file);
     allowed::remove_of_file(&mut world.allowed, file);
-    pins::keep_pinned(
+    keeping::keep_pinned(
+        alloc,
         &mut world.pins,
         &world.objects,
         &world.areas,
         &world.access_pins,
-    );
-    Ok(())
+        &asked,
+    )
 }

@@ -1,17 +1,22 @@
 //! DESTROY: an object goes, an address space with its areas and allowed ranges.
 
-ghost use Rattle.std.specs.Prelude.{◌≡◌, None};
+ghost use Rattle.std.specs.Prelude.{◌≡◌, ◌||◌, ℕ, None, IfOk};
 ghost use Rattle.iofd_words.specs.After.{changed};
+ghost use Rattle.iofd_words.specs.Areas.{is_of};
 ghost use Rattle.iofd_words.specs.Checks.{destroy_checks, is_device_object, is_used, refusal};
 ghost use Rattle.iofd_words.specs.FirstTrue.{first_true};
 ghost use Rattle.iofd_words.specs.Objects.{kind_of};
 ghost use Rattle.iofd_words.specs.View.{view};
 ghost use Rattle.iofd_words.specs.declared.event.Event.TheVariants as event;
+ghost use Rattle.journal_audit_events.specs.Asked.{over_space, space_under};
+ghost use Rattle.journal_audit_index.specs.Keys.{has_number};
 ghost use Rattle.journal_audit_world.specs.Kept.{IsKept};
+ghost use Rattle.journal_audit_world.specs.Over.{is_over};
 ghost use Rattle.journal_audit_world.specs.Unwritten.{unwritten};
 
-use iofd_words::{Cause, FileNo, ObjId, ObjectKind, Reply};
-use journal_audit_world::{World, allowed, areas, attachments, objects, pins};
+use iofd_words::{Cause, FileNo, NoMemory, ObjId, ObjectKind, Reply};
+use journal_audit_index::Numbers;
+use journal_audit_world::{World, allowed, areas, attachments, keeping, objects, over};
 use std::alloc::Allocator;
 
 /// Why it is refused, if it is.
@@ -66,24 +71,56 @@ fn is_device_object(kind: Option<ObjectKind>) -> bool
     }
 }
 
-/// What comes of it, where nothing refuses it, at this position.
+// The numbers of the memory objects that areas are over in the address space of this id, or of the page table of this
+// id.
+fn numbers_at<A: Allocator + Copy>(
+    alloc: A,
+    world: &World<A>,
+    file: FileNo,
+    id: ObjId,
+) -> Result<Numbers<A>, NoMemory>
+    ensures { let w = world.now in IfOk result (λ numbers. (n : ℕ) → has_number numbers n
+        ≡ (is_over (is_of file id) w.areas n || over_space file (space_under (kind_of w.objects file id)) w.areas n)) }
+{
+    let mut numbers = Numbers::new(alloc);
+    over::add_under(&mut numbers, &world.areas, file, id)?;
+    if let Some(kind) = objects::kind_of(&world.objects, file, id) {
+        if let Some(ioas) = attachments::ioas_of(kind) {
+            over::add_under(&mut numbers, &world.areas, file, ioas)?;
+        }
+    }
+    Ok(numbers)
+}
+
+/// What comes of it, where nothing refuses it, at this position. Its only error is want of memory.
 #[tactic(auto, unfolding(iofd_words::specs::After::changed))]
-pub fn change<A: Allocator>(at: u64, world: &mut World<A>, file: FileNo, id: ObjId, reply: Reply)
+pub fn change<A: Allocator + Copy>(
+    alloc: A,
+    at: u64,
+    world: &mut World<A>,
+    file: FileNo,
+    id: ObjId,
+    reply: Reply,
+) -> Result<(), NoMemory>
     requires kept { IsKept at world.old }
     requires granted { refusal {A = A} world.old (event.Destroy file id) ≡ None }
-    ensures { unwritten world.new ≡ unwritten (changed {A = A} at world.old (event.Destroy file id) reply) }
+    ensures { IfOk result (λ _. unwritten world.new
+        ≡ unwritten (changed {A = A} at world.old (event.Destroy file id) reply)) }
 {
     let Reply::Done = reply else {
-        return;
+        return Ok(());
     };
+    let asked = numbers_at(alloc, world, file, id)?;
     areas::remove_of(&mut world.areas, file, id);
-    pins::keep_used(&mut world.memory, &world.areas);
+    keeping::keep_used(alloc, &mut world.memory, &world.areas, &asked)?;
     objects::remove(&mut world.objects, file, id);
     allowed::remove_of(&mut world.allowed, file, id);
-    pins::keep_pinned(
+    keeping::keep_pinned(
+        alloc,
         &mut world.pins,
         &world.objects,
         &world.areas,
         &world.access_pins,
-    );
+        &asked,
+    )
 }

@@ -1,16 +1,20 @@
 //! Detach: a device's attachment ends, and with its last device an automatic page table goes.
 
-ghost use Rattle.std.specs.Prelude.{◌≡◌, None};
+ghost use Rattle.std.specs.Prelude.{◌≡◌, ℕ, None, Some, IfOk};
 ghost use Rattle.iofd_words.specs.After.{changed};
 ghost use Rattle.iofd_words.specs.Checks.{detach_checks, refusal};
 ghost use Rattle.iofd_words.specs.FirstTrue.{first_true};
+ghost use Rattle.iofd_words.specs.Objects.{kind_of};
 ghost use Rattle.iofd_words.specs.View.{view};
 ghost use Rattle.iofd_words.specs.declared.event.Event.TheVariants as event;
+ghost use Rattle.journal_audit_events.specs.Asked.{over_space, space_left};
+ghost use Rattle.journal_audit_index.specs.Keys.{has_number};
 ghost use Rattle.journal_audit_world.specs.Kept.{IsKept};
 ghost use Rattle.journal_audit_world.specs.Unwritten.{unwritten};
 
-use iofd_words::{Cause, DeviceNo, Reply};
-use journal_audit_world::{World, areas, attachments, objects, pins};
+use iofd_words::{Cause, DeviceNo, FileNo, NoMemory, ObjId, ObjectKind, Reply};
+use journal_audit_index::Numbers;
+use journal_audit_world::{World, areas, attachments, keeping, objects, over};
 use std::alloc::Allocator;
 
 /// Why it is refused, if it is.
@@ -27,28 +31,73 @@ pub fn refusal<A: Allocator>(world: &World<A>, device: DeviceNo) -> Option<Cause
     None
 }
 
-/// What comes of it, where nothing refuses it, at this position.
+// The address space of a page table that goes with its last device, if it is one.
+fn space_left(kind: ObjectKind, is_used: bool) -> Option<ObjId>
+    ensures { result ≡ space_left is_used (Some kind) }
+{
+    match kind {
+        ObjectKind::Hwpt {
+            ioas,
+            automatic,
+            ..
+        } if automatic && !is_used => Some(ioas),
+        _ => None,
+    }
+}
+
+// The numbers of the memory objects that areas are over in that address space.
+fn numbers_left<A: Allocator + Copy>(
+    alloc: A,
+    world: &World<A>,
+    file: FileNo,
+    hwpt: ObjId,
+    is_used: bool,
+) -> Result<Numbers<A>, NoMemory>
+    ensures { let w = world.now in IfOk result (λ numbers. (n : ℕ) → has_number numbers n
+        ≡ over_space file (space_left is_used (kind_of w.objects file hwpt)) w.areas n) }
+{
+    let mut numbers = Numbers::new(alloc);
+    let Some(kind) = objects::kind_of(&world.objects, file, hwpt) else {
+        return Ok(numbers);
+    };
+    if let Some(ioas) = space_left(kind, is_used) {
+        over::add_under(&mut numbers, &world.areas, file, ioas)?;
+    }
+    Ok(numbers)
+}
+
+/// What comes of it, where nothing refuses it, at this position. Its only error is want of memory.
 #[tactic(auto, unfolding(iofd_words::specs::After::changed))]
-pub fn change<A: Allocator>(at: u64, world: &mut World<A>, device: DeviceNo, reply: Reply)
+pub fn change<A: Allocator + Copy>(
+    alloc: A,
+    at: u64,
+    world: &mut World<A>,
+    device: DeviceNo,
+    reply: Reply,
+) -> Result<(), NoMemory>
     requires kept { IsKept at world.old }
     requires granted { refusal {A = A} world.old (event.Detach device) ≡ None }
-    ensures { unwritten world.new ≡ unwritten (changed {A = A} at world.old (event.Detach device) reply) }
+    ensures { IfOk result (λ _. unwritten world.new
+        ≡ unwritten (changed {A = A} at world.old (event.Detach device) reply)) }
 {
     let Reply::Done = reply else {
-        return;
+        return Ok(());
     };
     let Some(attachment) = attachments::attachment_of(&world.attachments, device) else {
-        return;
+        return Ok(());
     };
     let (file, hwpt) = (attachment.file, attachment.hwpt);
     attachments::remove(&mut world.attachments, device);
     let is_used = attachments::has_device_on(&world.attachments, file, hwpt);
+    let asked = numbers_left(alloc, world, file, hwpt, is_used)?;
     objects::remove_automatic(&mut world.objects, file, hwpt, is_used);
     areas::pay(&mut world.areas, device);
-    pins::keep_pinned(
+    keeping::keep_pinned(
+        alloc,
         &mut world.pins,
         &world.objects,
         &world.areas,
         &world.access_pins,
-    );
+        &asked,
+    )
 }

@@ -84,11 +84,16 @@ pub fn change<A: Allocator + Copy>(
     ensures { IfOk result (λ _. unwritten world.new ≡ unwritten (changed at world.old event.now reply)) }
 {
     match event {
+        Event::Destroy(file, id) => destroy::change(alloc, at, world, *file, *id, reply),
+        Event::Close(file) => close::change(alloc, at, world, *file, reply),
+        Event::Detach(device) => detach::change(alloc, at, world, *device, reply),
+        Event::AccessUnpin(file, id, request) => {
+            access_unpin::change(alloc, at, world, *file, *id, *request, reply)
+        }
         Event::IoasAlloc(file) => ioas_alloc::change(world, *file, reply),
         Event::AllowIovas(file, ioas, ranges) => {
             allow_iovas::change(alloc, world, *file, *ioas, ranges.as_slice(), reply)
         }
-        Event::Close(file) => close::change(at, world, *file, reply),
         Event::UserMap(user, va) => user_memory::map_change(world, *user, *va, reply),
         Event::Bind(file, device) => devices::bind_change(world, *file, *device, reply),
         Event::AccessCreate(file) => access_create::change(world, *file, reply),
@@ -102,23 +107,16 @@ pub fn change<A: Allocator + Copy>(
 // The events that take no memory.
 fn change_in_place<A: Allocator>(at: u64, world: &mut World<A>, event: &Event<A>, reply: Reply)
     requires served { needs_none event.now ≡ true }
-    requires kept { IsKept at world.old }
-    requires granted { words.refusal world.old event.now ≡ None }
     ensures { unwritten world.new ≡ unwritten (changed at world.old event.now reply) }
 {
     match event {
-        Event::Destroy(file, id) => destroy::change(at, world, *file, *id, reply),
         Event::UserUnmap(user, va) => user_memory::unmap_change(world, *user, *va, reply),
         Event::Unbind(file, id) => devices::unbind_change(world, *file, *id, reply),
-        Event::Detach(device) => detach::change(at, world, *device, reply),
         Event::Flush(device) => devices::flush_change(world, *device, reply),
         Event::AccessAttach(file, id, ioas) => {
             access_attach::change(world, *file, *id, *ioas, reply)
         }
         Event::AccessDetach(file, id) => access_detach::change(world, *file, *id, reply),
-        Event::AccessUnpin(file, id, request) => {
-            access_unpin::change(at, world, *file, *id, *request, reply)
-        }
         Event::UserWrite(_, _, _) => {}
         Event::DeviceWrite(_, _, _) => {}
         Event::AccessWrite(_, _, _, _) => {}

@@ -1,18 +1,20 @@
 -- Pins that were listed by what is found at the cost of a logarithm, as the definitions name them.
 use Rattle.std.proofs.Common.{◌≡◌, ◌<◌, ◌≤◌, ℕ, suc, ◌+◌, ◌*◌, ◌^◌, Bool, true, false, cond, ◌&&◌, ◌||◌, not, eqb}
-use Rattle.std.proofs.Common.{ltb, is_none, is_some, Option, Some, None, List, [], ◌∷◌, ◌++◌, length, map, find}
+use Rattle.std.proofs.Common.{◌-◌, leb, ltb, is_none, is_some, Option, Some, None, List, [], ◌∷◌, ◌++◌, length, map, find}
 use Rattle.std.proofs.Common.{append-nil, refl, sym, ap, subst, ◌∙◌, arith}
 use Rattle.std.specs.BTreeMap.{BTreeMap}
 use Rattle.std.specs.List.{cons_option, filter, filter_map, list_all, list_any, range_with_len}
 use Rattle.std.proofs.lemmas.Bool.{eqb-true}
-use Rattle.iofd_rows.proofs.Bools.{and_true, clash, not_true}
+use Rattle.std.proofs.lemmas.Bool.Decides.{nat_tests}
+use Rattle.iofd_rows.proofs.Bools.{and_true, both_true, clash, not_true}
+use Rattle.iofd_rows.proofs.Found.{find-filter, none_both}
 use Rattle.iofd_rows.proofs.ListTests.{none_stronger, or_left, or_right}
 use Rattle.iofd_rows.proofs.PageLists.{in_pages, kept_page, page_itself}
 use Rattle.iofd_rows.specs.Pinned.{has_object, have_own_numbers}
 use Rattle.iofd_words.specs.Checks.{has_pages}
 use Rattle.iofd_words.specs.Frames.{frame_at}
 use Rattle.iofd_words.specs.Pages.{page_of}
-use Rattle.iofd_words.specs.Pins.{ObjectPage, are_present, frame_now, is_page, pages_of, pinned_frame}
+use Rattle.iofd_words.specs.Pins.{ObjectPage, are_present, frame_now, is_page, page_of_pin, pages_of, pinned_frame}
 use Rattle.iofd_words.specs.Pins.{unpinned_pages}
 use Rattle.iofd_words.specs.Span.{size_of}
 use Rattle.iofd_words.specs.declared.numbers.FrameNo.{FrameNo}
@@ -21,7 +23,9 @@ use Rattle.iofd_words.specs.declared.rows.Area.{Area}
 use Rattle.iofd_words.specs.declared.rows.MemoryObject.{MemoryObject}
 use Rattle.iofd_words.specs.declared.rows.Pin.{Pin}
 use Rattle.iofd_words.specs.declared.rows.UserPage.{UserPage}
-use Rattle.journal_audit_page_tables.specs.Index.{frame_in, has_pair}
+use Rattle.journal_audit_mapping.specs.Own.{is_row_of}
+use Rattle.journal_audit_index.specs.Keys.{has_pair}
+use Rattle.journal_audit_index.specs.Pages.{frame_in}
 use Rattle.journal_audit_page_tables.specs.Listed.{Listed, own_frame, pin_at, unpinned}
 
 -- ---- frames that are found alike
@@ -102,14 +106,55 @@ absent_is now (page ∷ pages) = by_frame (now page) (absent_is now pages)
 
 -- ---- a memory object that comes
 
-pub new_listed : (frames : BTreeMap (ℕ × ℕ) FrameNo) (user_pages : List UserPage) (keys : List (ℕ × ℕ))
+-- a page of it is found among the rows of its pages
+page_among : (m : MemoryObject) (user_pages : List UserPage) (index : ℕ) → ltb index m.count ≡ true
+    → frame_at (filter (is_row_of m) user_pages) m.user (page_of m.va + index)
+    ≡ frame_at user_pages m.user (page_of m.va + index)
+page_among m user_pages index below =
+    ap (λ (o : Option UserPage). elim o as (λ _. Option FrameNo) [ Some row ↦ Some row.frame | None ↦ None ])
+    (find-filter (λ (row : UserPage). eqb row.user.0 m.user.0 && eqb row.page (page_of m.va + index)) (is_row_of m)
+    user_pages
+    (none_both (λ (row : UserPage). eqb row.user.0 m.user.0 && eqb row.page (page_of m.va + index)) (is_row_of m)
+    user_pages (λ row is. within row (and_true (eqb row.user.0 m.user.0) _ is))))
+  where
+    within : (row : UserPage)
+        → (eqb row.user.0 m.user.0 ≡ true) × (eqb row.page (page_of m.va + index) ≡ true) → is_row_of m row ≡ true
+    within row (own, here) = both_true _ _ (both_true _ _ own (low row.page (page_of m.va) here))
+        (high row.page (page_of m.va) here)
+      where
+        low : (page first : ℕ) → eqb page (first + index) ≡ true → leb first page ≡ true
+        low page first is =
+            let same : page ≡ first + index = eqb-true page (first + index) is in
+            let less : first ≤ page = omega (arith, same) in search (less, arith, nat_tests)
+
+        high : (page first : ℕ) → eqb page (first + index) ≡ true → ltb (page - first) m.count ≡ true
+        high page first is =
+            let same : page ≡ first + index = eqb-true page (first + index) is in
+            let less : index < m.count = search (below, arith, nat_tests) in
+            let left : page - first < m.count = omega (arith, same, less) in search (left, arith, nat_tests)
+
+-- the same of the pins of a memory object
+pin_among : (number : ℕ) (pins : List Pin) (page : ObjectPage) → page.memory ≡ number
+    → pinned_frame (filter (λ pin. eqb pin.memory number) pins) page ≡ pinned_frame pins page
+pin_among number pins page is =
+    ap (λ (o : Option Pin). elim o as (λ _. Option FrameNo) [ Some pin ↦ Some pin.frame | None ↦ None ])
+    (find-filter (λ (pin : Pin). is_page (page_of_pin pin) page) (λ pin. eqb pin.memory number) pins
+    (none_both (λ (pin : Pin). is_page (page_of_pin pin) page) (λ pin. eqb pin.memory number) pins
+    (λ pin same. ap (eqb pin.memory) (sym is)
+    ∙ (and_true (eqb pin.memory page.memory) (eqb pin.index page.index) same).0)))
+
+pub new_listed : (frames : BTreeMap (ℕ × ℕ) FrameNo) (user_pages rows seen : List UserPage) (keys : List (ℕ × ℕ))
     (m : MemoryObject) (old new : List Pin) (whole : Bool) → keys ≡ [] → old ≡ []
-    → ((user : UserNo) (page : ℕ) → frame_in frames user page ≡ frame_at user_pages user page)
+    → rows ≡ filter (is_row_of m) user_pages → seen ≡ rows
+    → ((user : UserNo) (page : ℕ) → frame_in frames user page ≡ frame_at seen user page)
     → Listed (own_frame (frame_in frames) m) old new whole (unpinned keys (pages_of m))
     → Listed (own_frame (frame_at user_pages) m) [] new whole (pages_of m)
-new_listed frames user_pages keys m old new whole none empty found listed =
+new_listed frames user_pages rows seen keys m old new whole none empty rows_are seen_is found listed =
     listed_alike (own_frame (frame_in frames) m) (own_frame (frame_at user_pages) m) [] new whole (pages_of m)
-    (λ page within. found m.user (page_of m.va + page.index))
+    (λ page within. found m.user (page_of m.va + page.index)
+    ∙ ap (λ (rs : List UserPage). frame_at rs m.user (page_of m.va + page.index)) (seen_is ∙ rows_are)
+    ∙ page_among m user_pages page.index (and_true (eqb page.memory m.number) (ltb page.index m.count)
+    (sym (in_pages page m.number m.count) ∙ within)).1)
     (subst (λ (pages : List ObjectPage). Listed (own_frame (frame_in frames) m) [] new whole pages)
     (ap (λ (ks : List (ℕ × ℕ)). unpinned ks (pages_of m)) none ∙ all_kept (pages_of m))
     (subst (λ (pins : List Pin). Listed (own_frame (frame_in frames) m) pins new whole (unpinned keys (pages_of m)))
@@ -209,16 +254,19 @@ none_shared pins memory user_pages number found new is none empty =
     (unpinned_pages (pinned_frame pins) rows)) (sym (no_object memory number (sym is ∙ none)))
     (record { present = refl; pins = λ holds. empty })
 
-pub shared_listed : (frames : BTreeMap (ℕ × ℕ) FrameNo) (user_pages : List UserPage) (keys : List (ℕ × ℕ))
-    (pins : List Pin) (memory : List MemoryObject) (number : ℕ) (m : MemoryObject) (found : Option MemoryObject)
-    (old new : List Pin) (whole : Bool) → have_own_numbers memory ≡ true
+pub shared_listed : (frames : BTreeMap (ℕ × ℕ) FrameNo) (user_pages rows seen : List UserPage) (keys : List (ℕ × ℕ))
+    (pins own among : List Pin) (memory : List MemoryObject) (number : ℕ) (m : MemoryObject)
+    (found : Option MemoryObject) (old new : List Pin) (whole : Bool) → have_own_numbers memory ≡ true
     → found ≡ find (λ (o : MemoryObject). eqb o.number number) memory → found ≡ Some m → old ≡ []
-    → ((page : ObjectPage) → has_pair keys page.memory page.index ≡ is_some (pinned_frame pins page))
-    → ((user : UserNo) (page : ℕ) → frame_in frames user page ≡ frame_at user_pages user page)
+    → own ≡ filter (λ pin. eqb pin.memory number) pins → among ≡ own
+    → ((page : ObjectPage) → has_pair keys page.memory page.index ≡ is_some (pinned_frame among page))
+    → rows ≡ filter (is_row_of m) user_pages → seen ≡ rows
+    → ((user : UserNo) (page : ℕ) → frame_in frames user page ≡ frame_at seen user page)
     → Listed (own_frame (frame_in frames) m) old new whole (unpinned keys (pages_of m))
     → Listed (frame_now memory user_pages) [] new whole
     (unpinned_pages (pinned_frame pins) (filter (λ (o : MemoryObject). eqb o.number number) memory))
-shared_listed frames user_pages keys pins memory number m found old new whole own is some empty pinned frame listed =
+shared_listed frames user_pages rows seen keys pins own among memory number m found old new whole numbers is some empty
+    own_are among_is pinned rows_are seen_is frame listed =
     subst (λ (pages : List ObjectPage). Listed (frame_now memory user_pages) [] new whole pages) (sym pages_are)
     (listed_alike (own_frame (frame_in frames) m) (frame_now memory user_pages) [] new whole
     (unpinned keys (pages_of m)) same
@@ -228,39 +276,57 @@ shared_listed frames user_pages keys pins memory number m found old new whole ow
     here : find (λ (o : MemoryObject). eqb o.number number) memory ≡ Some m
     here = sym is ∙ some
 
+    number_is : m.number ≡ number
+    number_is = eqb-true m.number number (found_number memory number m here)
+
     flipped : (o : Option FrameNo) → is_none o ≡ not (is_some o)
     flipped None = refl
     flipped (Some frame) = refl
 
+    known : (page : ObjectPage) → page.memory ≡ number
+        → has_pair keys page.memory page.index ≡ is_some (pinned_frame pins page)
+    known page of = pinned page
+        ∙ ap (λ (ps : List Pin). is_some (pinned_frame ps page)) (among_is ∙ own_are)
+        ∙ ap is_some (pin_among number pins page of)
+
     kept_alike : (pages : List ObjectPage)
+        → ((page : ObjectPage) → list_any (is_page page) pages ≡ true → page.memory ≡ number)
         → filter (λ page. is_none (pinned_frame pins page)) pages ≡ unpinned keys pages
-    kept_alike [] = refl
-    kept_alike (page ∷ pages) =
+    kept_alike [] own = refl
+    kept_alike (page ∷ pages) own =
         ap (λ (b : Bool). cond b (page ∷ filter (λ page. is_none (pinned_frame pins page)) pages)
         (filter (λ page. is_none (pinned_frame pins page)) pages))
-        (flipped (pinned_frame pins page) ∙ ap not (sym (pinned page)))
+        (flipped (pinned_frame pins page)
+        ∙ ap not (sym (known page (own page (or_left (is_page page page) _ (page_itself page))))))
         ∙ ap (λ (rest : List ObjectPage). cond (not (has_pair keys page.memory page.index)) (page ∷ rest) rest)
-        (kept_alike pages)
+        (kept_alike pages (λ other within. own other (or_right (is_page other page) _ within)))
+
+    named : (page : ObjectPage) → list_any (is_page page) (pages_of m) ≡ true
+        → (page.memory ≡ m.number) × (ltb page.index m.count ≡ true)
+    named page within =
+        let parts = and_true (eqb page.memory m.number) (ltb page.index m.count)
+        (sym (in_pages page m.number m.count) ∙ within) in
+        (eqb-true page.memory m.number parts.0, parts.1)
 
     pages_are : unpinned_pages (pinned_frame pins) (filter (λ (o : MemoryObject). eqb o.number number) memory)
         ≡ unpinned keys (pages_of m)
     pages_are =
-        ap (λ (rows : List MemoryObject). unpinned_pages (pinned_frame pins) rows) (one_object memory number m own here)
+        ap (λ (rows : List MemoryObject). unpinned_pages (pinned_frame pins) rows)
+        (one_object memory number m numbers here)
         ∙ ap (λ (pages : List ObjectPage). filter (λ page. is_none (pinned_frame pins page)) pages)
         (append-nil (pages_of m))
-        ∙ kept_alike (pages_of m)
+        ∙ kept_alike (pages_of m) (λ page within. (named page within).0 ∙ number_is)
 
     same : (page : ObjectPage) → list_any (is_page page) (unpinned keys (pages_of m)) ≡ true
         → own_frame (frame_in frames) m page ≡ frame_now memory user_pages page
     same page within =
         let inside = kept_page (λ page. not (has_pair keys page.memory page.index)) (pages_of m) page within in
-        let named = (and_true (eqb page.memory m.number) (ltb page.index m.count)
-        (sym (in_pages page m.number m.count) ∙ inside.0)).0 in
-        let memory_is : page.memory ≡ m.number = eqb-true page.memory m.number named in
-        let number_is : m.number ≡ number = eqb-true m.number number (found_number memory number m here) in
+        let parts = named page inside.0 in
         let found_m : find (λ (o : MemoryObject). eqb o.number page.memory) memory ≡ Some m =
-        ap (λ (n : ℕ). find (λ (o : MemoryObject). eqb o.number n) memory) (memory_is ∙ number_is) ∙ here in
+        ap (λ (n : ℕ). find (λ (o : MemoryObject). eqb o.number n) memory) (parts.0 ∙ number_is) ∙ here in
         frame m.user (page_of m.va + page.index)
+        ∙ ap (λ (rs : List UserPage). frame_at rs m.user (page_of m.va + page.index)) (seen_is ∙ rows_are)
+        ∙ page_among m user_pages page.index parts.1
         ∙ ap (λ (o : Option MemoryObject). elim o as (λ _. Option FrameNo)
         [ Some x ↦ frame_at user_pages x.user (page_of x.va + page.index) | None ↦ None ]) (sym found_m)
 

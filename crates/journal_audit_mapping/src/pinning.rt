@@ -9,14 +9,56 @@ ghost use Rattle.iofd_words.specs.Frames.{frame_at};
 ghost use Rattle.iofd_words.specs.Objects.{has_hwpt};
 ghost use Rattle.iofd_words.specs.Pages.{page_of};
 ghost use Rattle.iofd_words.specs.Pins.{are_present, frame_now, pages_of, pinned_frame, unpinned_pages};
+ghost use Rattle.journal_audit_mapping.specs.Own.{is_row_of};
 ghost use Rattle.journal_audit_page_tables.specs.Listed.{Listed, own_frame};
 
 use iofd_words::{Area, FileNo, MemoryObject, NoMemory, ObjId, Pin, UserPage};
-use journal_audit_page_tables::index::{frames_by_page, pinned_pages};
+use journal_audit_index::pages::{frames_by_page, pinned_pages};
 use journal_audit_page_tables::listing::list_pages;
+use journal_audit_world::pages::page_of;
 use journal_audit_world::{World, objects};
 use std::alloc::Allocator;
 use std::collections::BTreeSet;
+
+// Whether it is a row of a page of the memory object.
+fn is_page_of(object: MemoryObject, row: &UserPage) -> bool
+    ensures { result ≡ is_row_of object row.now }
+{
+    let first = page_of(object.va);
+    row.user.0 == object.user.0 && first <= row.page && row.page - first < object.count
+}
+
+// The rows of pages of the memory object, of which the frames are found then.
+fn rows_of<A: Allocator + Copy>(
+    alloc: A,
+    user_pages: &[UserPage],
+    object: MemoryObject,
+) -> Result<Vec<UserPage, A>, NoMemory>
+    ensures { IfOk result (λ rows. rows.items ≡ filter (is_row_of object) user_pages.now) }
+{
+    let rows = user_pages
+        .iter()
+        .filter(|row| is_page_of(object, row))
+        .copied()
+        .collect(alloc)?;
+    Ok(rows)
+}
+
+// The pins of the memory object of this number.
+fn pins_of<A: Allocator + Copy>(
+    alloc: A,
+    pins: &[Pin],
+    number: u64,
+) -> Result<Vec<Pin, A>, NoMemory>
+    ensures { IfOk result (λ own. own.items ≡ filter (λ pin. pin.memory == number) pins.now) }
+{
+    let own = pins
+        .iter()
+        .filter(|pin| pin.memory == number)
+        .copied()
+        .collect(alloc)?;
+    Ok(own)
+}
 
 /// The pins of all pages of a memory object that comes. None where one isn't in its user's memory. The error is want of
 /// memory.
@@ -30,7 +72,8 @@ pub fn pins_of_new<A: Allocator + Copy>(
         IfOk result (λ all. MatchOption all (are_present now pages ≡ false)
         (λ found. Listed now [] found.items true pages)) }
 {
-    let frames = frames_by_page(alloc, user_pages)?;
+    let rows = rows_of(alloc, user_pages, object)?;
+    let frames = frames_by_page(alloc, &rows)?;
     let pinned = BTreeSet::new(alloc);
     let mut found = Vec::new(alloc);
     if !list_pages(&mut found, &pinned, &frames, object)? {
@@ -93,8 +136,10 @@ pub fn pins_of_shared<A: Allocator + Copy>(
     let Some(object) = object_of(memory, source.memory) else {
         return Ok(Some(Vec::new(alloc)));
     };
-    let pinned = pinned_pages(alloc, pins)?;
-    let frames = frames_by_page(alloc, user_pages)?;
+    let own = pins_of(alloc, pins, source.memory)?;
+    let pinned = pinned_pages(alloc, &own)?;
+    let rows = rows_of(alloc, user_pages, object)?;
+    let frames = frames_by_page(alloc, &rows)?;
     let mut found = Vec::new(alloc);
     if !list_pages(&mut found, &pinned, &frames, object)? {
         return Ok(None);

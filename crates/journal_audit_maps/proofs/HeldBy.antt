@@ -1,7 +1,8 @@
 -- A user's account counted by pins is that of the definitions, which count pages.
 use Rattle.std.proofs.Common.{◌≡◌, ℕ, ◌+◌, Bool, true, false, cond, ◌&&◌, ◌||◌, not, eqb, ltb, is_some, Option, Some, None}
-use Rattle.std.proofs.Common.{List, [], ◌∷◌, map, find, refl, sym, ap, ◌∙◌, arith, inl, inr}
-use Rattle.std.specs.List.{count_by, filter, flat_map, list_any}
+use Rattle.std.proofs.Common.{◌≤◌, ◌<◌, suc, List, [], ◌∷◌, length, get_or, drop, map, find, refl, sym, ap, ◌∙◌, arith, inl, inr}
+use Rattle.std.specs.List.{HoldsAt, count_by, filter, flat_map, list_any}
+use Rattle.std.proofs.lemmas.List.{drop_more, get_or_default}
 use Rattle.std.proofs.lemmas.Bool.{eqb-true}
 use Rattle.std.proofs.lemmas.Bool.Decides.{nat_tests}
 use Rattle.iofd_rows.proofs.Bools.{and_true, both_true, clash, not_false, not_true}
@@ -23,6 +24,8 @@ use Rattle.iofd_words.specs.declared.numbers.UserNo.{UserNo}
 use Rattle.iofd_words.specs.declared.rows.MemoryObject.{MemoryObject}
 use Rattle.iofd_words.specs.declared.rows.Pin.{Pin}
 use Rattle.journal_audit_maps.specs.Held.{is_of_user}
+use Rattle.journal_audit_world.proofs.Places.{any_at}
+use Rattle.journal_audit_world.specs.Kept.{numbers_rise}
 
 -- ---- pages of several memory objects differ
 
@@ -158,7 +161,81 @@ held_is at w user p =
     own : MemoryObject → Bool
     own m = eqb m.user.0 user.0
 
+-- ---- one pin
+
+-- there is no memory object of its number
+pub user_none : (memory : List MemoryObject) (user : UserNo) (pin : Pin)
+    → list_any (λ (m : MemoryObject). eqb m.number pin.memory) memory ≡ false → false ≡ is_of_user memory user pin
+user_none memory user pin none =
+    sym (none_stronger (λ (m : MemoryObject). eqb m.user.0 user.0
+    && (eqb pin.memory m.number && ltb pin.index m.count)) (λ (m : MemoryObject). eqb m.number pin.memory) memory
+    (λ m is. flipped pin.memory m.number (and_true (eqb pin.memory m.number) (ltb pin.index m.count)
+    (and_true (eqb m.user.0 user.0) _ is).1).0) none)
+  where
+    flipped : (a b : ℕ) → eqb a b ≡ true → eqb b a ≡ true
+    flipped a b is = grind (arith, nat_tests)
+
+-- or it stands there
+pub user_at : (memory : List MemoryObject) (user : UserNo) (pin : Pin) (i : ℕ) (d : MemoryObject)
+    → numbers_rise memory ≡ true → i < length memory → HoldsAt (λ (m : MemoryObject). m.number ≡ pin.memory) memory i
+    → (eqb (get_or memory i d).user.0 user.0 && ltb pin.index (get_or memory i d).count) ≡ is_of_user memory user pin
+user_at memory user pin i d rise within named =
+    sym (any_at memory pin.memory i (get_or memory i d) (λ (m : MemoryObject). eqb m.user.0 user.0
+    && (eqb pin.memory m.number && ltb pin.index m.count)) rise within (get_or_default memory i d _ within) (named d)
+    (λ m is. flipped pin.memory m.number (and_true (eqb pin.memory m.number) (ltb pin.index m.count)
+    (and_true (eqb m.user.0 user.0) _ is).1).0)
+    ∙ ap (λ (b : Bool). eqb (get_or memory i d).user.0 user.0 && (b && ltb pin.index (get_or memory i d).count))
+    (same pin.memory (get_or memory i d).number (named d)))
+  where
+    flipped : (a b : ℕ) → eqb a b ≡ true → eqb b a ≡ true
+    flipped a b is = grind (arith, nat_tests)
+
+    same : (a b : ℕ) → b ≡ a → eqb a b ≡ true
+    same a b is = grind (arith, nat_tests)
+
+-- no more than all
+pub count_few : (p : Pin → Bool) (pins : List Pin) → count_by p pins ≤ length pins
+count_few p [] = omega arith
+count_few p (pin ∷ pins) =
+    let one = count-cons p pin pins in let rest = count_few p pins in by_test (p pin) one rest
+  where
+    by_test : (b : Bool) → count_by p (pin ∷ pins) ≡ cond b 1 0 + count_by p pins → count_by p pins ≤ length pins
+        → count_by p (pin ∷ pins) ≤ suc (length pins)
+    by_test true one rest = omega (arith, one, rest)
+    by_test false one rest = omega (arith, one, rest)
+
+-- one pin more
+pub counted_more : (p : Pin → Bool) (pins : List Pin) (i : ℕ) (d : Pin) (count new : ℕ) → i < length pins
+    → new ≡ count + cond (p (get_or pins i d)) 1 0 → count + count_by p (drop i pins) ≡ count_by p pins
+    → new + count_by p (drop (i + 1) pins) ≡ count_by p pins
+counted_more p pins i d count new within is before =
+    let all = ap (count_by p) (drop_more pins i d within) in
+    let one = count-cons p (get_or pins i d) (drop (i + 1) pins) in
+    omega (arith, is, before, all, one)
+
 -- ---- the limit
+
+-- the pins of all users aren't more than it
+pub limit_kept : (at : ℕ) (v w : World) (file : FileNo) (count : ℕ) (user : UserNo) (limit all : ℕ) (pins : List Pin)
+    → v ≡ w → ArePinned at w → user_of v.settings file ≡ Some user → limit_of v.settings user ≡ Some limit
+    → all ≡ length pins → pins ≡ v.pins → all + count ≤ limit
+    → false ≡ passes_limit (view w) (user_of w.settings file) count
+limit_kept at v w file count user limit all pins same kept of_file of_user long p few =
+    let fewer : count_by (is_of_user w.memory user) w.pins ≤ length w.pins = count_few (is_of_user w.memory user) w.pins
+    in
+    let held = held_is at w user kept in
+    let whole : all ≡ length w.pins = long ∙ ap (λ (l : List Pin). length l) (p ∙ ap (λ (x : World). x.pins) same) in
+    let kept_below : held_by (pinned_frame w.pins) w.memory user + count ≤ limit =
+    omega (arith, fewer, held, whole, few) in
+    limit_told (held_by (pinned_frame w.pins) w.memory user) kept_below
+    ∙ sym (ap (λ (o : Option UserNo). passes_limit (view w) o count)
+    (ap (λ (x : World). user_of x.settings file) (sym same) ∙ of_file)
+    ∙ ap (λ (o : Option ℕ). elim o
+    [ Some most ↦ ltb most (held_by (pinned_frame w.pins) w.memory user + count) | None ↦ false ])
+    (ap (λ (x : World). limit_of x.settings user) (sym same) ∙ of_user))
+  where
+    limit_told : (held : ℕ) → held + count ≤ limit → false ≡ ltb limit (held + count)
+    limit_told held few = grind (arith, nat_tests)
 
 pub limit_passed : (at : ℕ) (v w : World) (file : FileNo) (count : ℕ) (user : UserNo) (limit held : ℕ) (pins : List Pin)
     (memory : List MemoryObject) (b : Bool) → v ≡ w → ArePinned at w → user_of v.settings file ≡ Some user

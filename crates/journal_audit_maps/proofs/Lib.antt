@@ -6,4 +6,5 @@ pub mod HeldBy
 pub mod PagesAsked
 pub mod SettledMore
 pub mod Unmapped
+pub mod Unspanned
 pub mod Waits

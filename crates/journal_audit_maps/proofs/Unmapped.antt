@@ -1,12 +1,15 @@
 -- The world after an UNMAP by which areas go: the pins of pages that are to be pinned still stay, and no others.
-use Rattle.std.proofs.Common.{◌≡◌, ◌&&◌, ℕ, not, eqb, None, List, refl, sym, ap, subst, ◌∙◌}
-use Rattle.std.specs.List.{filter, list_any}
+use Rattle.std.proofs.Common.{◌≡◌, ◌&&◌, ◌||◌, ℕ, true, not, eqb, None, List, [], refl, sym, ap, subst, ◌∙◌}
+use Rattle.std.specs.List.{filter, list_all, list_any}
 use Rattle.iofd_runs.proofs.KeepsPins.{accesses_kept}
 use Rattle.iofd_runs.proofs.PagesToPin.{gone_within}
 use Rattle.iofd_words.specs.After.{changed, settle, without_areas}
 use Rattle.iofd_words.specs.Answers.{Answers}
-use Rattle.iofd_words.specs.Areas.{is_touched}
+use Rattle.iofd_words.specs.Areas.{is_of, is_touched, unmapped_span}
+use Rattle.iofd_words.specs.Bounds.{Bounds}
 use Rattle.iofd_words.specs.Checks.{refusal}
+use Rattle.iofd_words.specs.Pins.{is_pinned, page_of_pin}
+use Rattle.iofd_words.specs.Span.{meets}
 use Rattle.iofd_words.specs.World.{World}
 use Rattle.iofd_words.specs.declared.event.Event.TheVariants as event
 use Rattle.iofd_words.specs.declared.event.UnmapRequest.{UnmapRequest}
@@ -17,8 +20,12 @@ use Rattle.iofd_words.specs.declared.rows.Area.{Area}
 use Rattle.iofd_words.specs.declared.rows.MemoryObject.{MemoryObject}
 use Rattle.iofd_words.specs.declared.rows.Object.{Object}
 use Rattle.iofd_words.specs.declared.rows.Pin.{Pin}
+use Rattle.journal_audit_index.specs.Keys.{has_number}
+use Rattle.journal_audit_world.proofs.Asked.{accessed_left, still_pinned, translated_left}
+use Rattle.journal_audit_world.proofs.AreasOver.{used_or_asked}
 use Rattle.journal_audit_world.proofs.Settling.{listed_left, pinned_still, settle_less, used_still, with_kept_pins}
 use Rattle.journal_audit_world.specs.Kept.{IsKept}
+use Rattle.journal_audit_world.specs.Over.{is_over}
 use Rattle.journal_audit_world.specs.Unwritten.{unwritten}
 
 -- without the areas that it touches, and the memory objects that no other is over
@@ -42,6 +49,70 @@ gone_is A at w file request count kept none answers =
     inside)
     (λ page listed is. listed_left w.objects (is_touched file request) w.areas w.memory w.access_pins page listed is)
     kept.pins.only
+
+-- ---- what is asked for
+
+-- the numbers of areas that it touches, gathered by its span
+asked_touched : (file : FileNo) (request : UnmapRequest) (span : Bounds) (seen areas : List Area)
+    (none asked : List ℕ) → none ≡ [] → span ≡ unmapped_span request → seen ≡ areas
+    → ((n : ℕ) → has_number asked n ≡ (has_number none n || is_over (λ (area : Area). is_of file request.ioas area
+    && meets area.span (record { first = span.first; last = span.last })) seen n))
+    → (n : ℕ) → is_over (is_touched file request) areas n ≡ true → has_number asked n ≡ true
+asked_touched file request span seen areas none asked empty span_is seen_is gathered n over =
+    gathered n
+    ∙ ap (λ (ks : List ℕ). has_number ks n || is_over (λ (area : Area). is_of file request.ioas area
+    && meets area.span (record { first = span.first; last = span.last })) seen n) empty
+    ∙ ap (λ (b : Bounds). is_over (λ (area : Area). is_of file request.ioas area
+    && meets area.span (record { first = b.first; last = b.last })) seen n) span_is
+    ∙ ap (λ (rows : List Area). is_over (is_touched file request) rows n) seen_is
+    ∙ over
+
+-- so each memory object is asked for, or has an area still
+pub touched_used : (at : ℕ) (v w : World) (file : FileNo) (request : UnmapRequest) (span : Bounds)
+    (seen left over : List Area) (memory : List MemoryObject) (none asked : List ℕ) → v ≡ w → IsKept at w → none ≡ []
+    → span ≡ unmapped_span request → seen ≡ v.areas
+    → ((n : ℕ) → has_number asked n ≡ (has_number none n || is_over (λ (area : Area). is_of file request.ioas area
+    && meets area.span (record { first = span.first; last = span.last })) seen n))
+    → left ≡ filter (λ area. not (is_touched file request area)) v.areas → over ≡ left → memory ≡ v.memory
+    → list_all (λ m. has_number asked m.number || list_any (λ (area : Area). eqb area.memory m.number) over) memory
+    ≡ true
+touched_used at v w file request span seen left over memory none asked same kept empty span_is seen_is gathered left_is
+    over_is memory_is =
+    let kept_v = subst (λ (x : World). IsKept at x) (sym same) kept in
+    rw memory_is
+    (used_or_asked (is_touched file request) v.areas over v.memory asked
+    (asked_touched file request span seen v.areas none asked empty span_is seen_is gathered) (over_is ∙ left_is)
+    kept_v.pins.used)
+
+-- and each pin is of one that is, or of a page that is to be pinned still
+pub touched_pinned : (A : Type 0) (at : ℕ) (v w : World) (file : FileNo) (request : UnmapRequest) (count : ℕ)
+    (span : Bounds) (seen left : List Area) (objects : List Object) (areas : List Area) (access_pins : List AccessPin)
+    (pins : List Pin) (none asked : List ℕ) → v ≡ w → IsKept at w
+    → refusal {A = A} w (event.Unmap file request) ≡ None
+    → Answers {A = A} w (event.Unmap file request) (reply.Bytes count) → none ≡ []
+    → span ≡ unmapped_span request → seen ≡ v.areas
+    → ((n : ℕ) → has_number asked n ≡ (has_number none n || is_over (λ (area : Area). is_of file request.ioas area
+    && meets area.span (record { first = span.first; last = span.last })) seen n))
+    → left ≡ filter (λ area. not (is_touched file request area)) v.areas
+    → objects ≡ v.objects → areas ≡ left → access_pins ≡ v.access_pins → pins ≡ v.pins
+    → list_all (λ pin. has_number asked pin.memory || is_pinned objects areas access_pins (page_of_pin pin)) pins ≡ true
+unfolding changed settle without_areas
+touched_pinned A at v w file request count span seen left objects areas access_pins pins none asked same kept granted
+    answers empty span_is seen_is gathered left_is o r p ps =
+    let kept_v = subst (λ (x : World). IsKept at x) (sym same) kept in
+    let none_v = subst (λ (x : World). refusal {A = A} x (event.Unmap file request) ≡ None) (sym same) granted in
+    let answers_v = subst (λ (x : World). Answers {A = A} x (event.Unmap file request) (reply.Bytes count)) (sym same)
+    answers in
+    let over = asked_touched file request span seen v.areas none asked empty span_is seen_is gathered in
+    let alike = (accesses_kept {A = A} at v (event.Unmap file request) (reply.Bytes count) none_v answers_v kept_v.pins
+    ).accessed in
+    rw (o, r ∙ left_is, p, ps)
+    (still_pinned v v.objects (filter (λ area. not (is_touched file request area)) v.areas) v.access_pins asked
+    (λ n. translated_left (is_touched file request) (is_touched file request) v.objects v.objects v.areas asked n
+    (over n) (λ area isnt. (isnt, λ has. has)))
+    (λ page. accessed_left (is_touched file request) v v.objects
+    (filter (λ area. not (is_touched file request area)) v.areas) asked page over kept_v.pins.used (alike page))
+    kept_v.pins.only)
 
 pub remove_done : (A : Type 0) (at : ℕ) (v w new : World) (file : FileNo) (request : UnmapRequest) (count : ℕ)
     (over : List Area) (objects : List Object) (areas : List Area) (access_pins : List AccessPin) → v ≡ w

@@ -1,20 +1,25 @@
 //! Pages that are to be pinned anew, each at the frame that its user has there now.
 
-ghost use Rattle.std.specs.Prelude.{◌≡◌, ◌==◌, ◌&&◌, ◌+◌, ◌*◌, ◌∷◌, [], true, false, find, IfOk, MatchOption};
-ghost use Rattle.std.specs.List.{flat_map};
+ghost use Rattle.std.specs.Prelude.{◌≡◌, ◌<◌, ℕ, ◌==◌, ◌&&◌, ◌+◌, ◌*◌, ◌∷◌, [], true, false, find, IfOk, MatchOption};
+ghost use Rattle.std.specs.List.{flat_map, list_all};
 ghost use Rattle.std.specs.Option.{option_copied};
+ghost use Rattle.iofd_rows.specs.Pinned.{has_object, have_own_numbers};
 ghost use Rattle.iofd_words.specs.Accesses.{is_spanned};
 ghost use Rattle.iofd_words.specs.Areas.{areas_of, is_of};
 ghost use Rattle.iofd_words.specs.Frames.{frame_at};
 ghost use Rattle.iofd_words.specs.Pins.{frame_now, pages_of, span_of_page};
-ghost use Rattle.iofd_words.specs.Span.{lies_in, span_from};
+ghost use Rattle.iofd_words.specs.Span.{lies_in, meets, span_from};
+ghost use Rattle.journal_audit_index.specs.Keys.{has_number};
 ghost use Rattle.journal_audit_maps.specs.Newly.{Gathers, IsNext, lesser, newly_spanned, unpinned_of};
+ghost use Rattle.journal_audit_world.specs.Over.{is_over};
 
 use crate::asked::Asked;
 use iofd_words::{
     Area, FileNo, FrameNo, MemoryObject, NoMemory, ObjId, PAGE_SIZE, Pin, UserNo, UserPage,
 };
+use journal_audit_index::Numbers;
 use journal_audit_world::areas::is_of;
+use journal_audit_world::over;
 use journal_audit_world::pages::page_of;
 use journal_audit_world::pins::pinned_frame;
 use std::alloc::Allocator;
@@ -187,9 +192,36 @@ fn gather_object<A: Allocator>(
     Ok(true)
 }
 
+// The same, if the memory object is asked for; no page of another lies in the span.
+fn gather_asked<A: Allocator>(
+    found: &mut Vec<Pin, A>,
+    areas: &[Area],
+    pins: &[Pin],
+    memory: &[MemoryObject],
+    user_pages: &[UserPage],
+    file: FileNo,
+    ioas: ObjId,
+    asked: Asked,
+    object: MemoryObject,
+    is_asked: bool,
+) -> Result<bool, NoMemory>
+    requires { is_asked ≡ false → (i : ℕ) → i < object.count
+        → is_spanned asked (areas_of areas.now file ioas) (record { memory = object.number; index = i }) ≡ false }
+    ensures { IfOk result (λ all. Gathers all memory.now user_pages.now
+        (newly_spanned pins.now areas.now file ioas asked (pages_of object)) found.old.items found.new.items) }
+{
+    if !is_asked {
+        return Ok(true);
+    }
+    gather_object(
+        found, areas, pins, memory, user_pages, file, ioas, asked, object,
+    )
+}
+
 /// The pins of the pages that lie in the span, in some area of the address space, and aren't pinned yet. None where one
-/// isn't in its user's memory. The error is want of memory.
-pub fn gather<A: Allocator>(
+/// isn't in its user's memory. Only memory objects of areas that meet the span are gone through. The error is want of
+/// memory.
+pub fn gather<A: Allocator + Copy>(
     alloc: A,
     areas: &[Area],
     pins: &[Pin],
@@ -199,17 +231,37 @@ pub fn gather<A: Allocator>(
     ioas: ObjId,
     asked: Asked,
 ) -> Result<Option<Vec<Pin, A>>, NoMemory>
+    requires own { have_own_numbers memory.now ≡ true }
+    requires sizes { list_all (has_object memory.now) areas.now ≡ true }
     ensures { let pages = newly_spanned pins.now areas.now file ioas asked (flat_map pages_of memory.now) in
         IfOk result (λ all. MatchOption all (Gathers false memory.now user_pages.now pages [] [])
         (λ found. Gathers true memory.now user_pages.now pages [] found.items)) }
 {
+    let numbers = numbers_in(alloc, areas, file, ioas, asked)?;
     let mut found = Vec::new(alloc);
     for object in memory {
-        if !gather_object(
-            &mut found, areas, pins, memory, user_pages, file, ioas, asked, *object,
+        let is_asked = numbers.has(object.number);
+        if !gather_asked(
+            &mut found, areas, pins, memory, user_pages, file, ioas, asked, *object, is_asked,
         )? {
             return Ok(None);
         }
     }
     Ok(Some(found))
+}
+
+// The numbers of the memory objects of areas that meet the span.
+fn numbers_in<A: Allocator + Copy>(
+    alloc: A,
+    areas: &[Area],
+    file: FileNo,
+    ioas: ObjId,
+    asked: Asked,
+) -> Result<Numbers<A>, NoMemory>
+    ensures { IfOk result (λ numbers. (n : ℕ) → has_number numbers n
+        ≡ is_over (λ area. is_of file ioas area && meets area.span asked) areas.now n) }
+{
+    let mut numbers = Numbers::new(alloc);
+    over::add_meeting(&mut numbers, areas, file, ioas, asked.first, asked.last)?;
+    Ok(numbers)
 }

@@ -1,6 +1,6 @@
 //! UNMAP: areas go, or are leaving until devices have flushed and access pins are let go.
 
-ghost use Rattle.std.specs.Prelude.{◌≡◌, None};
+ghost use Rattle.std.specs.Prelude.{◌≡◌, None, IfOk};
 ghost use Rattle.iofd_words.specs.After.{changed};
 ghost use Rattle.iofd_words.specs.Answers.{Answers};
 ghost use Rattle.iofd_words.specs.Checks.{refusal, unmap_checks};
@@ -18,8 +18,9 @@ use crate::leaving::{
     unmapped_span,
 };
 use crate::waiting::waits;
-use iofd_words::{Cause, Errno, FileNo, Reply, UnmapRequest};
-use journal_audit_world::{World, objects, pages, pins};
+use iofd_words::{Cause, Errno, FileNo, NoMemory, Reply, UnmapRequest};
+use journal_audit_index::Numbers;
+use journal_audit_world::{World, keeping, objects, over, pages};
 use std::alloc::Allocator;
 
 /// Why it is refused, if it is.
@@ -102,50 +103,69 @@ pub fn may_answer<A: Allocator>(
     }
 }
 
-/// What comes of it, where nothing refuses it and the answer is lawful, at this position.
+/// What comes of it, where nothing refuses it and the answer is lawful, at this position. Its only error is want of
+/// memory.
 #[tactic(auto, unfolding(iofd_words::specs::After::changed))]
-pub fn change<A: Allocator>(
+pub fn change<A: Allocator + Copy>(
+    alloc: A,
     at: u64,
     world: &mut World<A>,
     file: FileNo,
     request: UnmapRequest,
     reply: Reply,
-)
+) -> Result<(), NoMemory>
     requires kept { IsKept at world.old }
     requires granted { refusal {A = A} world.old (event.Unmap file request) ≡ None }
     requires answered { Answers {A = A} world.old (event.Unmap file request) reply }
-    ensures { unwritten world.new ≡ unwritten (changed {A = A} at world.old (event.Unmap file request) reply) }
+    ensures { IfOk result (λ _. unwritten world.new
+        ≡ unwritten (changed {A = A} at world.old (event.Unmap file request) reply)) }
 {
     match reply {
-        Reply::Bytes(count) => remove(at, world, file, request, count),
-        Reply::Pending(errno) => wait(at, world, file, request, errno),
-        _ => (),
+        Reply::Bytes(count) => remove(alloc, at, world, file, request, count),
+        Reply::Pending(errno) => {
+            wait(at, world, file, request, errno);
+            Ok(())
+        }
+        _ => Ok(()),
     }
 }
 
 // Its areas go, with their memory objects and pins.
 #[tactic(auto, unfolding(iofd_words::specs::After::changed))]
-fn remove<A: Allocator>(
+fn remove<A: Allocator + Copy>(
+    alloc: A,
     at: u64,
     world: &mut World<A>,
     file: FileNo,
     request: UnmapRequest,
     count: u64,
-)
+) -> Result<(), NoMemory>
     requires kept { IsKept at world.old }
     requires granted { refusal {A = A} world.old (event.Unmap file request) ≡ None }
     requires answered { Answers {A = A} world.old (event.Unmap file request) (reply.Bytes count) }
-    ensures { unwritten world.new
-        ≡ unwritten (changed {A = A} at world.old (event.Unmap file request) (reply.Bytes count)) }
+    ensures { IfOk result (λ _. unwritten world.new
+        ≡ unwritten (changed {A = A} at world.old (event.Unmap file request) (reply.Bytes count))) }
 {
+    let span = unmapped_span(request);
+    let mut asked = Numbers::new(alloc);
+    over::add_meeting(
+        &mut asked,
+        &world.areas,
+        file,
+        request.ioas,
+        span.first,
+        span.last,
+    )?;
     remove_touched(&mut world.areas, file, request);
-    pins::keep_used(&mut world.memory, &world.areas);
-    pins::keep_pinned(
+    keeping::keep_used(alloc, &mut world.memory, &world.areas, &asked)?;
+    keeping::keep_pinned(
+        alloc,
         &mut world.pins,
         &world.objects,
         &world.areas,
         &world.access_pins,
-    );
+        &asked,
+    )
 }
 
 // They are leaving, with a try more.

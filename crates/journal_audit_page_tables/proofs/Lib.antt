@@ -1,5 +1,4 @@
 pub mod Attached
-pub mod Indexed
 pub mod Joined
 pub mod ListedObjects
 pub mod ListedPages

@@ -1,4 +1,3 @@
-pub mod Index
 pub mod Listed
 pub mod Pinning
 pub mod Unusable

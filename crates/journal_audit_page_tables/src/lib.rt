@@ -5,7 +5,6 @@
 pub mod answers;
 pub mod attach;
 pub mod hwpt_alloc;
-pub mod index;
 pub mod listing;
 pub mod narrowing;
 pub mod pinning;

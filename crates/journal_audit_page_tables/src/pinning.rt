@@ -11,31 +11,25 @@ ghost use Rattle.iofd_words.specs.Objects.{is_fresh};
 ghost use Rattle.iofd_words.specs.Pins.{are_present, pages_of};
 ghost use Rattle.iofd_words.specs.View.{view};
 ghost use Rattle.journal_audit_maps.specs.Newly.{Gathers};
-ghost use Rattle.journal_audit_page_tables.specs.Index.{frame_in, has_number};
+ghost use Rattle.journal_audit_index.specs.Pages.{frame_in};
 ghost use Rattle.journal_audit_page_tables.specs.Listed.{Listed, has_few_pages, now_in, own_frame, unpinned};
 ghost use Rattle.journal_audit_page_tables.specs.Listed.{unpinned_over};
 ghost use Rattle.journal_audit_page_tables.specs.Pinning.{first_pins, with_table};
 ghost use Rattle.journal_audit_world.specs.Kept.{IsKept};
 ghost use Rattle.journal_audit_world.specs.Unwritten.{unwritten};
 
-use crate::index::{frames_by_page, numbers_under, pinned_pages};
 use crate::listing::list_pages;
 use iofd_words::{
     Cause, FileNo, FrameNo, MemoryObject, NoMemory, ObjId, Object, ObjectKind, Pin, Width,
 };
+use journal_audit_index::Numbers;
+use journal_audit_index::pages::{frames_by_page, pinned_pages};
 use journal_audit_maps::accounts::passes_limit;
-use journal_audit_world::{World, objects};
+use journal_audit_world::{World, objects, over};
 use std::alloc::Allocator;
 use std::collections::{BTreeMap, BTreeSet};
 
 // ---- which they are
-
-// Whether the number is one of these.
-fn has_number<A: Allocator>(numbers: &BTreeSet<u64, A>, number: u64) -> bool
-    ensures { result ≡ has_number numbers.now.keys number }
-{
-    numbers.contains(&number)
-}
 
 // The pages of one memory object more, if it is asked for.
 fn list_object<A: Allocator>(
@@ -59,20 +53,20 @@ fn list_object<A: Allocator>(
 fn list_objects<A: Allocator + Copy>(
     alloc: A,
     memory: &[MemoryObject],
-    numbers: &BTreeSet<u64, A>,
+    numbers: &Numbers<A>,
     pinned: &BTreeSet<(u64, u64), A>,
     frames: &BTreeMap<(u16, u64), FrameNo, A>,
 ) -> Result<Option<Vec<Pin, A>>, NoMemory>
     requires own { have_own_numbers memory.now ≡ true }
     requires few { list_all has_few_pages memory.now ≡ true }
     ensures { let now = now_in (frame_in frames.now) memory.now in
-        let pages = unpinned_over numbers.now.keys pinned.now.keys memory.now in
+        let pages = unpinned_over numbers.now pinned.now.keys memory.now in
         IfOk result (λ all. MatchOption all (are_present now pages ≡ false)
         (λ pins. Listed now [] pins.items true pages)) }
 {
     let mut pins = Vec::new(alloc);
     for object in memory {
-        let is_asked = has_number(numbers, object.number);
+        let is_asked = numbers.has(object.number);
         if !list_object(&mut pins, pinned, frames, *object, is_asked)? {
             return Ok(None);
         }
@@ -94,7 +88,8 @@ pub fn newly_pinned<A: Allocator + Copy>(
         IfOk result (λ all. MatchOption all (Gathers false w.memory w.user_pages pages [] [])
         (λ pins. Gathers true w.memory w.user_pages pages [] pins.items)) }
 {
-    let numbers = numbers_under(alloc, &world.areas, file, ioas)?;
+    let mut numbers = Numbers::new(alloc);
+    over::add_under(&mut numbers, &world.areas, file, ioas)?;
     let pinned = pinned_pages(alloc, &world.pins)?;
     let frames = frames_by_page(alloc, &world.user_pages)?;
     list_objects(alloc, &world.memory, &numbers, &pinned, &frames)

@@ -32,10 +32,7 @@ pub fn change<A: Allocator + Copy>(
     match event {
         Event::Map(file, request) => map::change(alloc, at, world, *file, *request, reply),
         Event::Copy(file, request) => copy::change(alloc, at, world, *file, *request, reply),
-        Event::Unmap(file, request) => {
-            unmap::change(at, world, *file, *request, reply);
-            Ok(())
-        }
+        Event::Unmap(file, request) => unmap::change(alloc, at, world, *file, *request, reply),
         Event::HwptAlloc(file, request) => {
             hwpt_alloc::change(alloc, at, world, *file, *request, reply)
         }

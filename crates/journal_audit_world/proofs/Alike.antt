@@ -45,6 +45,7 @@ kept_to at w k = record {
     held = k.pins.held;
     spaces = k.pins.spaces;
   };
+  numbers = k.numbers;
   own_ids = k.own_ids;
   tabled = record { needed = k.tabled.needed; owned = k.tabled.owned };
   differ = k.differ;
@@ -75,6 +76,7 @@ kept_from at w k = record {
     held = k.pins.held;
     spaces = k.pins.spaces;
   };
+  numbers = k.numbers;
   own_ids = k.own_ids;
   tabled = record { needed = k.tabled.needed; owned = k.tabled.owned };
   differ = k.differ;

@@ -1,10 +1,14 @@
 pub mod Alike
-pub mod Covered
+pub mod AreasOver
+pub mod Asked
 pub mod Differ
 pub mod InPlace
+pub mod Kept
 pub mod KeptRun
 pub mod Marks
+pub mod Numbered
 pub mod PinTaken
+pub mod Places
 pub mod PoolFew
 pub mod Rising
 pub mod Settling

@@ -1,4 +1,4 @@
-pub mod Covered
 pub mod Decides
 pub mod Kept
+pub mod Over
 pub mod Unwritten

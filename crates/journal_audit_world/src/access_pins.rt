@@ -43,8 +43,8 @@ fn is_asked(file: FileNo, access: ObjId, request: PinRequest, pin: &AccessPin) -
         && request.write == pin.write
 }
 
-// The last address that is asked for.
-fn last_of(request: PinRequest) -> u128
+/// The last address that is asked for.
+pub fn last_of(request: PinRequest) -> u128
     ensures { result ≡ (pinned_span request).last }
 {
     (u128::from(request.iova.0) + u128::from(request.length)).saturating_sub(1)

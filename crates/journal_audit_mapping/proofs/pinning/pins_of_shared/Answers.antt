@@ -15,13 +15,15 @@ list_pages-requires g c =
 pub returns-then-not-branch : goal.returns-then-not-branch
 returns-then-not-branch g c =
     absent_listed _ _ _ _ _ c.if-not-branch.true
-    (shared_listed c.in_ok-frames.frames c.args.user_pages.now _ c.args.pins.now c.args.memory.now
+    (shared_listed c.in_ok-frames.frames c.args.user_pages.now _ _ _ c.args.pins.now _ _ c.args.memory.now
     c.args.source.now.memory c.in-Some.object _ _ _ _ c.requires.numbers c.object_of.ensures c.in-Some.is
-    c.new-found.ensures.items c.in_ok-pinned.ensures c.in_ok-frames.ensures c.in_ok-list_pages.ensures)
+    c.new-found.ensures.items c.in_ok-own.ensures c.deref.ensures.value c.in_ok-pinned.ensures c.in_ok-rows.ensures
+    c.deref-2.ensures.value c.in_ok-frames.ensures c.in_ok-list_pages.ensures)
 
 pub returns : goal.returns
 returns g c =
     whole_listed _ _ _ _ _ c.if-not-branch.false
-    (shared_listed c.in_ok-frames.frames c.args.user_pages.now _ c.args.pins.now c.args.memory.now
+    (shared_listed c.in_ok-frames.frames c.args.user_pages.now _ _ _ c.args.pins.now _ _ c.args.memory.now
     c.args.source.now.memory c.in-Some.object _ _ _ _ c.requires.numbers c.object_of.ensures c.in-Some.is
-    c.new-found.ensures.items c.in_ok-pinned.ensures c.in_ok-frames.ensures c.in_ok-list_pages.ensures)
+    c.new-found.ensures.items c.in_ok-own.ensures c.deref.ensures.value c.in_ok-pinned.ensures c.in_ok-rows.ensures
+    c.deref-2.ensures.value c.in_ok-frames.ensures c.in_ok-list_pages.ensures)

@@ -1,0 +1,17 @@
+use Rattle.std.proofs.Common.{◌||◌, ◌&&◌, ℕ}
+use Rattle.iofd_words.specs.Areas.{is_of}
+use Rattle.iofd_words.specs.Span.{meets}
+use Rattle.iofd_words.specs.declared.rows.Area.{Area}
+use Rattle.journal_audit_index.specs.Keys.{has_number}
+use Rattle.journal_audit_world.specs.Over.{is_over}
+use Rattle.journal_audit_world.proofs.AreasOver.{row_over}
+use Rattle.journal_audit_world.proofs.over.add_meeting.Goals as goal
+
+pub loop-area-preserved : goal.loop-area-preserved
+loop-area-preserved g c =
+    row_over (λ (area : Area). is_of c.args.file c.args.ioas area
+    && meets area.span (record { first = c.args.first; last = c.args.last })) c.args.areas.now
+    (λ n. has_number c.args.numbers.now n || is_over (λ (area : Area). is_of c.args.file c.args.ioas area
+    && meets area.span (record { first = c.args.first; last = c.args.last })) c.args.areas.now n) _ _
+    c.loop-area.area-index c.area-item.result c.is_meeting.result c.loop-area-test.true c.area-item.is
+    c.is_meeting.ensures c.in_ok-add_if.ensures c.loop-area.invariant

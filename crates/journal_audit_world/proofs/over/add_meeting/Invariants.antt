@@ -1,0 +1,13 @@
+use Rattle.std.proofs.Common.{◌≡◌, ◌||◌, ◌&&◌, ℕ, drop}
+use Rattle.iofd_words.specs.Areas.{is_of}
+use Rattle.iofd_words.specs.Span.{meets}
+use Rattle.journal_audit_index.specs.Keys.{has_number}
+use Rattle.journal_audit_world.specs.Over.{is_over}
+use Rattle.journal_audit_world.proofs.over.add_meeting.Given as goal
+
+abbrev pub invariant-loop-area : goal.invariant-loop-area
+invariant-loop-area g l = (n : ℕ)
+    → (has_number l.numbers n || is_over (λ area. is_of l.file l.ioas area
+    && meets area.span (record { first = l.first; last = l.last })) (drop l.area-index l.areas) n)
+    ≡ (has_number l.initial.numbers n || is_over (λ area. is_of l.file l.ioas area
+    && meets area.span (record { first = l.first; last = l.last })) l.areas n)
