@@ -1,8 +1,10 @@
 //! Tests of `journal_audit`, through its public call: the example of the journals' page, whole, cut and altered
-//! (`example`), a journal with a refusal (`refusal`), those of sessions (`sessions`), an UNMAP that waits (`waits`),
-//! and want of memory (`heaps`).
+//! (`example`), each byte of a small one altered to each value (`altered`), a journal with a refusal (`refusal`), those
+//! of sessions (`sessions`), an UNMAP that waits (`waits`), and want of memory (`heaps`).
 #![tactic(auto)]
 
+#[cfg(test)]
+mod altered;
 #[cfg(test)]
 mod example;
 #[cfg(test)]
