@@ -24,12 +24,23 @@ between low high n e =
 pub lanes_fit : (lanes cache : ℕ) → first_outside lanes cache ≡ None → (1 ≤ lanes) × (lanes ≤ 64)
 lanes_fit lanes cache none = between 1 64 lanes (none_true (is_between 1 64 lanes) _ _ none).0
 
--- a configuration has 1 to 1024 passes
-pub passes_fit : (s : Settings) → config.first_outside s ≡ None → (1 ≤ s.passes) × (s.passes ≤ 1024)
-passes_fit s none =
+-- what a configuration has within its limits, behind its files
+devices_and_passes : (s : Settings) → config.first_outside s ≡ None
+    → (length s.devices ≤ 256) × (is_between 1 1024 s.passes ≡ true)
+devices_and_passes s none =
     let pool = none_true (is_between 1 4096 s.pool) _ _ none in
     let users = none_true (is_between 1 255 (length s.users)) _ _ pool.1 in
     let files = none_true (is_between 1 1024 (length s.files)
     && list_all (λ user. is_between 1 (length s.users) user.0) s.files) _ _ users.1 in
-    let devices = none_true (nat_le (length s.devices) 256 && list_all is_device_in_limits s.devices) _ _ files.1 in
-    between 1 1024 s.passes (none_true (is_between 1 1024 s.passes) _ _ devices.1).0
+    let devices = none_true (nat_le (length s.devices) 256 && list_all is_device_in_limits s.devices) _ _ files.1 in (
+      leb-true (length s.devices) 256 (both_true _ _ devices.0).0,
+      (none_true (is_between 1 1024 s.passes) _ _ devices.1).0,
+    )
+
+-- it has at most 256 devices
+pub devices_fit : (s : Settings) → config.first_outside s ≡ None → length s.devices ≤ 256
+devices_fit s none = (devices_and_passes s none).0
+
+-- and 1 to 1024 passes
+pub passes_fit : (s : Settings) → config.first_outside s ≡ None → (1 ≤ s.passes) × (s.passes ≤ 1024)
+passes_fit s none = between 1 1024 s.passes (devices_and_passes s none).1

@@ -13,7 +13,8 @@ use Rattle.lane_lock.specs.declared.refusal.NotNow.{NotNow}
 use Rattle.lane_lock.specs.declared.refusal.NotNow.TheVariants as refusal
 use Rattle.lane_lock.specs.declared.refusal.NotNow.TheVariants.{Shared}
 use Rattle.lane_lock.specs.declared.table.View.{View}
-use Rattle.shared_iommufd.specs.Guarded.{Committed, Shown}
+use Rattle.shared_iommufd.specs.Guarded.{Committed, RefusesCommit, Shown}
+use Rattle.shared_iommufd.specs.declared.error.TryError.TheVariants as tried
 
 module _ {K A S E : Type 0} {g : kept.Ghosts K A S E} where
   -- what the guard of a lock over p showed was shown to q, which the pass is once the guard is gone
@@ -65,7 +66,7 @@ module _ {E : Type 0} where
     later = ([], keeps.seen ∙ sym (append-nil v.seen));
   }
 
-  refused_sees : (v w : View E) (lane : ℕ) (e : NotNow) → RefusesRead v w lane e → OnlySees v w
+  pub refused_sees : (v w : View E) (lane : ℕ) (e : NotNow) → RefusesRead v w lane e → OnlySees v w
   refused_sees v w lane (refusal.Busy busy) refused = keeps_sees v w refused.0
   refused_sees v w lane Shared refused = keeps_sees v w refused.0
 
@@ -74,3 +75,9 @@ module _ {E : Type 0} where
       → r ≡ Err e → OnErr r (IfErr r (λ e. same × RefusesRead v w lane e)) → OnlySees v w
   sees_if_refused {X = X} r e same v w lane is refused = refused_sees v w lane e
       (subst (λ (r : Result X NotNow). OnErr r (IfErr r (λ e. same × RefusesRead v w lane e))) is refused).1
+
+  -- a commit that was refused made nothing
+  pub commit_sees : (lanes : ℕ) (v w : View E) (refused : NotNow) → RefusesCommit lanes v w (tried.NotNow refused)
+      → OnlySees v w
+  commit_sees lanes v w (refusal.Busy busy) denied = denied.0
+  commit_sees lanes v w Shared denied = denied

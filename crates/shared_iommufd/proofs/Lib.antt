@@ -1,5 +1,11 @@
 pub mod Bounds
+pub mod DeviceAnswers
 pub mod Entered
 pub mod Ended
 pub mod Guards
+pub mod Keys
+pub mod Passed
+pub mod PortReads
+pub mod PortWrites
+pub mod SamePorts
 pub mod Shown

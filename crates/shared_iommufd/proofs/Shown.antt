@@ -35,7 +35,7 @@ use Rattle.shared_iommufd.proofs.Entered.{is_history, one_entry, same_settings, 
 
 module _ {A : Type 0} where
   -- the history begins with what begins what it begins with
-  starts_so : (h b a : List (Entry A)) → StartsWith h b → StartsWith b a → StartsWith h a
+  pub starts_so : (h b a : List (Entry A)) → StartsWith h b → StartsWith b a → StartsWith h a
   starts_so h b a s t = (t.0 ++ s.0, s.1 ∙ (ap (λ (l : List (Entry A)). l ++ s.0) t.1 ∙ append_assoc a t.0 s.0))
 
   -- what is answered to the core's word on ranges tells the ranges of its world

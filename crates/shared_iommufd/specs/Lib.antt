@@ -9,6 +9,10 @@ pub mod Made
 pub mod OfPort
 pub mod Opening
 pub mod Passes
+pub mod Pieces
+pub mod PortReads
+pub mod PortWrites
+pub mod Ports
 pub mod Seen
 pub mod Servers
 pub mod Told

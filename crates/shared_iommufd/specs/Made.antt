@@ -1,7 +1,8 @@
 -- What a call makes.
-use Rattle.std.specs.Prelude.{◌≡◌, List, [], ◌∷◌, ◌++◌, map}
+use Rattle.std.specs.Prelude.{◌≡◌, ℕ, Option, Some, None, Result, Ok, Err, List, [], ◌∷◌, ◌++◌, map}
 use Rattle.iofd_words.specs.Settings.{Settings}
 use Rattle.iofd_words.specs.declared.event.Act.{Act}
+use Rattle.iofd_words.specs.declared.event.Event.{Event}
 use Rattle.iofd_words.specs.declared.record.Record.{Record}
 use Rattle.iommufd_core.specs.declared.apply.Stamp.{Stamp}
 use Rattle.lane_lock.specs.History.{StartsWith, made_by}
@@ -10,6 +11,15 @@ use Rattle.shared_iommufd.specs.Applied.{IsApplied}
 use Rattle.shared_iommufd.specs.Entries.{history_of, maker_of, told}
 use Rattle.shared_iommufd.specs.Passes.{CoreGhosts, CorePass}
 use Rattle.shared_iommufd.specs.declared.kept_core.Entry.TheVariants as entry
+
+-- the act that applies an event, with no cached frame
+abbrev pub act_of : {A : Type 0} → Event A → Act A
+act_of event = record { event = event; via = None }
+
+-- the place of the record that a call made, if it made one
+abbrev pub place_of : {E : Type 0} → Result Stamp E → Option ℕ
+place_of (Ok stamp) = Some stamp.at
+place_of (Err error) = None
 
 module _ {A : Type 0} {g : CoreGhosts A} where
   -- The pass made one record: of this act, with its own number, and with the reply and at the place of the stamp. It

@@ -18,15 +18,15 @@ impl<A: Allocator + Copy> Server<A> {
     ghost use Rattle.shared_iommufd.specs.OfPort.{event_of_port};
     ghost use Rattle.shared_iommufd.specs.Servers.{IsPassOf, settings_of};
 
-    /// Applies an event once all lanes can be had: exactly one record is made, of this event and with the number of
-    /// this pass, behind all that the pass has then seen, and the stamp has its place among the records and its reply.
-    /// NoMemory makes none.
-    ///
-    /// An event that only a port makes isn't allowed (`is_event_of_port`), nor a cached frame.
-    pub fn call<R: Wait>(&self, rt: &R, pass: &mut Pass<A>, act: &Act<A>) -> Result<Stamp, NoMemory>
+    // Makes the record of an event, once all lanes can be had; that of a port too.
+    pub(crate) fn make<R: Wait>(
+        &self,
+        rt: &R,
+        pass: &mut Pass<A>,
+        act: &Act<A>,
+    ) -> Result<Stamp, NoMemory>
         requires owned { IsPassOf self.now pass.old }
         requires via { act.now.via ≡ None }
-        requires event { event_of_port act.now.event ≡ false }
         ensures same_pass { SamePass pass.old pass.new }
         ensures owned { IsPassOf self.now pass.new }
         ensures made { IfOk result (λ stamp. Makes (settings_of self.now) pass.old act.now stamp pass.new) }
@@ -43,6 +43,39 @@ impl<A: Allocator + Copy> Server<A> {
         unreachable!()
     }
 
+    // The same without waiting.
+    pub(crate) fn try_make(
+        &self,
+        pass: &mut Pass<A>,
+        act: &Act<A>,
+    ) -> Result<Stamp, TryError<NoMemory>>
+        requires owned { IsPassOf self.now pass.old }
+        requires via { act.now.via ≡ None }
+        ensures same_pass { SamePass pass.old pass.new }
+        ensures owned { IsPassOf self.now pass.new }
+        ensures made { IfOk result (λ stamp. Makes (settings_of self.now) pass.old act.now stamp pass.new) }
+        ensures refused { IfErr result (RefusesCommit (lanes_of self.now.lock) (view_of pass.old) (view_of pass.new)) }
+    {
+        try_commit(&self.lock, pass, act)
+    }
+
+    /// Applies an event once all lanes can be had: exactly one record is made, of this event and with the number of
+    /// this pass, behind all that the pass has then seen, and the stamp has its place among the records and its reply.
+    /// NoMemory makes none.
+    ///
+    /// An event that only a port makes isn't allowed (`is_event_of_port`), nor a cached frame.
+    pub fn call<R: Wait>(&self, rt: &R, pass: &mut Pass<A>, act: &Act<A>) -> Result<Stamp, NoMemory>
+        requires owned { IsPassOf self.now pass.old }
+        requires via { act.now.via ≡ None }
+        requires event { event_of_port act.now.event ≡ false }
+        ensures same_pass { SamePass pass.old pass.new }
+        ensures owned { IsPassOf self.now pass.new }
+        ensures made { IfOk result (λ stamp. Makes (settings_of self.now) pass.old act.now stamp pass.new) }
+        ensures none { OnErr result (OnlySees (view_of pass.old) (view_of pass.new)) }
+    {
+        self.make(rt, pass, act)
+    }
+
     /// The same without waiting. NotNow where a lane is held, or a share of the core is still held elsewhere: then no
     /// record is made.
     pub fn try_call(&self, pass: &mut Pass<A>, act: &Act<A>) -> Result<Stamp, TryError<NoMemory>>
@@ -54,6 +87,6 @@ impl<A: Allocator + Copy> Server<A> {
         ensures made { IfOk result (λ stamp. Makes (settings_of self.now) pass.old act.now stamp pass.new) }
         ensures refused { IfErr result (RefusesCommit (lanes_of self.now.lock) (view_of pass.old) (view_of pass.new)) }
     {
-        try_commit(&self.lock, pass, act)
+        self.try_make(pass, act)
     }
 }

@@ -2,6 +2,7 @@
 
 use crate::kept_core::KeptCore;
 use crate::server::{Pass, Server};
+use iofd_words::{Fault, NoMemory, Refusal};
 use lane_lock::{Kept, NotNow};
 use std::alloc::{Allocator, Global};
 use std::sync::Arc;
@@ -24,6 +25,26 @@ pub enum TryError<E> {
     NotNow(NotNow),
     /// The call was served, and failed.
     Call(E),
+}
+
+/// Why a piece of a port's read or write didn't pass.
+#[derive(Clone, Copy, PartialEq, Eq, Debug)]
+pub enum PortCause {
+    /// It was refused: the device isn't bound, or the address is one of its interrupt range.
+    Refused(Refusal),
+    /// It was denied.
+    Fault(Fault),
+    /// There was no memory for the record of a write. A read wants none.
+    Memory(NoMemory),
+}
+
+/// How far a port's read or write came, and why no further.
+#[derive(Clone, Copy, PartialEq, Eq, Debug)]
+pub struct PortError<C = PortCause> {
+    /// How many bytes passed before.
+    pub done: usize,
+    /// Why the next piece didn't pass.
+    pub cause: C,
 }
 
 /// Why a server didn't give its core back.

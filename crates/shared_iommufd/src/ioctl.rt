@@ -110,14 +110,13 @@ fn told<A: Allocator>(
 }
 
 impl<A: Allocator + Copy> Server<A> {
-    ghost use Rattle.std.specs.Prelude.{false, OnErr, IfErr};
+    ghost use Rattle.std.specs.Prelude.{OnErr, IfErr};
     ghost use Rattle.ioctl_codec.specs.Events.{asked};
     ghost use Rattle.lane_lock.specs.Outcomes.{OnlySees};
     ghost use Rattle.lane_lock.specs.Passes.{SamePass, lane_of, lanes_of, view_of};
     ghost use Rattle.shared_iommufd.specs.Guarded.{RefusesCommit};
     ghost use Rattle.shared_iommufd.specs.Ioctls.{IsDecoded, IsMade, IsServed, IsTold};
     ghost use Rattle.shared_iommufd.specs.Ioctls.{RefusesIoctl, RefusesLook};
-    ghost use Rattle.shared_iommufd.specs.OfPort.{event_of_port};
     ghost use Rattle.shared_iommufd.specs.Servers.{IsPassOf, settings_of};
 
     /// Carries out a call of ioctl that the file makes with this number and these bytes (uapi header `iommufd.h`), once
@@ -188,7 +187,7 @@ impl<A: Allocator + Copy> Server<A> {
         ensures none { OnErr result (OnlySees (view_of pass.old) (view_of pass.new)) }
     {
         match command.asked(file) {
-            Asked::Event(event) => self.make(rt, pass, event),
+            Asked::Event(event) => self.answer_event(rt, pass, event),
             Asked::Ranges(request) => self.tell_ranges(rt, pass, file, request),
         }
     }
@@ -209,20 +208,19 @@ impl<A: Allocator + Copy> Server<A> {
             (view_of pass.new)) }
     {
         match command.asked(file) {
-            Asked::Event(event) => self.try_make(pass, event),
+            Asked::Event(event) => self.try_answer_event(pass, event),
             Asked::Ranges(request) => self.try_tell_ranges(pass, file, request),
         }
     }
 
     // Makes the record of an event that a command asks for, and answers its reply.
-    fn make<R: Wait>(
+    fn answer_event<R: Wait>(
         &self,
         rt: &R,
         pass: &mut Pass<A>,
         event: Event<A>,
     ) -> Result<IoctlAnswer<A>, NoMemory>
         requires owned { IsPassOf self.now pass.old }
-        requires event { event_of_port event ≡ false }
         ensures same_pass { SamePass pass.old pass.new }
         ensures owned { IsPassOf self.now pass.new }
         ensures made { IfOk result (λ answer. IsMade (settings_of self.now) pass.old event answer pass.new) }
@@ -230,18 +228,17 @@ impl<A: Allocator + Copy> Server<A> {
     {
         let room = room_for_reply(self.alloc)?;
         let act = Act { event, via: None };
-        let stamp = self.call(rt, pass, &act)?;
+        let stamp = self.make(rt, pass, &act)?;
         Ok(written(act.event, &stamp.reply, room))
     }
 
     // The same without waiting.
-    fn try_make(
+    fn try_answer_event(
         &self,
         pass: &mut Pass<A>,
         event: Event<A>,
     ) -> Result<IoctlAnswer<A>, TryError<NoMemory>>
         requires owned { IsPassOf self.now pass.old }
-        requires event { event_of_port event ≡ false }
         ensures same_pass { SamePass pass.old pass.new }
         ensures owned { IsPassOf self.now pass.new }
         ensures made { IfOk result (λ answer. IsMade (settings_of self.now) pass.old event answer pass.new) }
@@ -251,7 +248,7 @@ impl<A: Allocator + Copy> Server<A> {
             return Err(TryError::Call(NoMemory));
         };
         let act = Act { event, via: None };
-        match self.try_call(pass, &act) {
+        match self.try_make(pass, &act) {
             Ok(stamp) => Ok(written(act.event, &stamp.reply, room)),
             Err(error) => Err(error),
         }

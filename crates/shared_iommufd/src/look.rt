@@ -29,6 +29,18 @@ impl<A: Allocator + Copy> Server<A> {
         show(rt, &self.lock, pass, &|kept: &KeptCore<A>| kept.look(query))
     }
 
+    // Answers a question without waiting, that of a port too.
+    pub(crate) fn try_ask(&self, pass: &mut Pass<A>, query: &Query) -> Result<Answer, NotNow>
+        requires { IsPassOf self.now pass.old }
+        ensures same_pass { SamePass pass.old pass.new }
+        ensures owned { IsPassOf self.now pass.new }
+        ensures sees { OnlySees (view_of pass.old) (view_of pass.new) }
+        ensures answer { IfOk result (IsAnswered (settings_of self.now) pass.new query.now) }
+        ensures refused { IfErr result (RefusesRead (view_of pass.old) (view_of pass.new) (lane_of pass.old)) }
+    {
+        try_show(&self.lock, pass, &|kept: &KeptCore<A>| kept.look(query))
+    }
+
     /// The same without waiting. NotNow where the lane of the pass is held or empty: then the pass has seen what it had
     /// seen.
     pub fn try_look(&self, pass: &mut Pass<A>, query: &Query) -> Result<Answer, NotNow>
@@ -40,6 +52,6 @@ impl<A: Allocator + Copy> Server<A> {
         ensures answer { IfOk result (IsAnswered (settings_of self.now) pass.new query.now) }
         ensures refused { IfErr result (RefusesRead (view_of pass.old) (view_of pass.new) (lane_of pass.old)) }
     {
-        try_show(&self.lock, pass, &|kept: &KeptCore<A>| kept.look(query))
+        self.try_ask(pass, query)
     }
 }

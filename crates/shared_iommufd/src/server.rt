@@ -7,6 +7,7 @@ ghost use Rattle.shared_iommufd.specs.Opening.{opened_with};
 use crate::error::ConfigError;
 use crate::kept_core::KeptCore;
 use crate::limits::first_outside;
+use crate::port_key::{PortKey, keys_of};
 use iofd_words::Config;
 use iommufd_core::Core;
 use lane_lock::LaneLock;
@@ -30,11 +31,12 @@ impl<A: Allocator + Copy> Server<A> {
     ghost use Rattle.std.specs.Prelude.{IfErr, IfOk, None, OnOk};
     ghost use Rattle.lane_lock.specs.Passes.{AllNew, lanes_of};
     ghost use Rattle.shared_iommufd.specs.Limits.{IsRefusedFor, first_outside};
+    ghost use Rattle.shared_iommufd.specs.Ports.{AllKeys};
     ghost use Rattle.shared_iommufd.specs.Servers.{settings_of};
 
-    /// A server with this configuration and no record, and as many passes as the configuration says, in the order of
-    /// their numbers. The core takes memory of the first allocator, the lock of the second. The limits are 1 to 64
-    /// lanes, and 1 to 4096 pages for the cache of a port; nothing is cached yet.
+    /// A server with this configuration and no record, as many passes as the configuration says, in the order of their
+    /// numbers, and a key for each of its devices, in theirs. The core takes memory of the first allocator, the lock of
+    /// the second. The limits are 1 to 64 lanes, and 1 to 4096 pages for the cache of a port; nothing is cached yet.
     ///
     /// The error is the first of lanes and cache that is outside its limits, or that memory was wanting.
     pub fn new<B: Allocator>(
@@ -43,11 +45,12 @@ impl<A: Allocator + Copy> Server<A> {
         config: &Config<B>,
         lanes: u16,
         cache: u16,
-    ) -> Result<(Server<A>, Vec<Pass<A>>), ConfigError>
+    ) -> Result<(Server<A>, Vec<Pass<A>>, Vec<PortKey>), ConfigError>
         ensures limits { OnOk result (first_outside lanes cache ≡ None) }
         ensures settings { IfOk result (λ r. settings_of r.0 ≡ config.now) }
         ensures lanes { IfOk result (λ r. lanes_of r.0.lock ≡ lanes) }
         ensures passes { IfOk result (λ r. AllNew r.0.lock config.now.passes r.1.items) }
+        ensures keys { IfOk result (λ r. AllKeys r.0 r.2.items) }
         ensures refused { IfErr result (IsRefusedFor lanes cache) }
     {
         if let Some(error) = first_outside(lanes, cache) {
@@ -56,11 +59,14 @@ impl<A: Allocator + Copy> Server<A> {
         // Whoever asks a configuration for its pool learns that it is within its limits.
         let _pool = config.pool();
         let passes = config.passes();
+        let Ok(keys) = keys_of(global, config.devices().len()) else {
+            return Err(ConfigError::Memory);
+        };
         let Ok(core) = Core::new(alloc, config) else {
             return Err(ConfigError::Memory);
         };
         match LaneLock::new(global, KeptCore { core }, lanes, passes) {
-            Ok((lock, passes)) => Ok((Server { lock, alloc }, passes)),
+            Ok((lock, passes)) => Ok((Server { lock, alloc }, passes, keys)),
             Err(_) => Err(ConfigError::Memory),
         }
     }

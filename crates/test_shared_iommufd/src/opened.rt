@@ -27,7 +27,10 @@ pub(crate) fn server<A: Allocator + Copy>(
     ensures { IfSome result (λ r. OwnsAll r.0.lock r.1.items) }
 {
     let config = config(global, passes)?;
-    Server::new(alloc, global, &config, 2, 1).ok()
+    match Server::new(alloc, global, &config, 2, 1) {
+        Ok((server, passes, _keys)) => Some((server, passes)),
+        Err(_) => None,
+    }
 }
 
 // The last of the passes.

@@ -1,9 +1,10 @@
-use Rattle.std.proofs.Common.{◌≤◌, ◌∙◌, ap, refl, sym, subst, inl, inr}
+use Rattle.std.proofs.Common.{◌≡◌, ◌≤◌, ◌∙◌, ap, length, refl, sym, subst, inl, inr, rules}
 use Rattle.iofd_words.specs.Settings.{Settings}
 use Rattle.lane_lock.specs.Passes.{AllNew}
 use Rattle.shared_iommufd.specs.Opening.{opened_with}
 use Rattle.shared_iommufd.proofs.Bounds.{lanes_fit, passes_fit}
 use Rattle.shared_iommufd.proofs.Entered.{opened_so}
+use Rattle.shared_iommufd.proofs.Keys.{all_keys}
 use Rattle.shared_iommufd.proofs.server.Server.new.Goals as goal
 
 pub new-requires-2-clause-lanes : goal.new-requires-2-clause-lanes
@@ -15,37 +16,42 @@ new-requires-2-clause-passes g c = subst (λ n. (1 ≤ n) × (n ≤ 1024)) (sym 
 
 pub invariant_of-result-clause-fresh : goal.invariant_of-result-clause-fresh
 invariant_of-result-clause-fresh g c =
-    (opened_so (opened_with c.in-Ok-new.lock) c.in-Ok.core.history c.args.config.now c.in-Ok-new.ensures.opening
-    c.in-Ok.ensures).1
+    (opened_so (opened_with c.in-Ok-new-2.lock) c.in-Ok-new.core.history c.args.config.now c.in-Ok-new-2.ensures.opening
+    c.in-Ok-new.ensures).1
 
 pub invariant_of-result-clause-counted : goal.invariant_of-result-clause-counted
 invariant_of-result-clause-counted g c =
-    let o = opened_so (opened_with c.in-Ok-new.lock) c.in-Ok.core.history c.args.config.now c.in-Ok-new.ensures.opening
-    c.in-Ok.ensures in
-    c.in-Ok-new.ensures.sizes.1 ∙ (c.passes-passes.ensures ∙ ap (λ (s : Settings). s.passes) (sym o.0))
+    let o = opened_so (opened_with c.in-Ok-new-2.lock) c.in-Ok-new.core.history c.args.config.now c.in-Ok-new-2.ensures.opening
+    c.in-Ok-new.ensures in
+    c.in-Ok-new-2.ensures.sizes.1 ∙ (c.passes-passes.ensures ∙ ap (λ (s : Settings). s.passes) (sym o.0))
 
 -- ---- what is answered
 
 pub returns-in-Some-clause-refused : goal.returns-in-Some-clause-refused
 returns-in-Some-clause-refused g c = inl (sym c.first_outside.ensures ∙ c.in-Some.is)
 
-pub returns-in-Ok-new-clause-limits : goal.returns-in-Ok-new-clause-limits
-returns-in-Ok-new-clause-limits g c = sym c.first_outside.ensures ∙ c.in_default.is
+pub returns-in-Ok-new-2-clause-limits : goal.returns-in-Ok-new-2-clause-limits
+returns-in-Ok-new-2-clause-limits g c = sym c.first_outside.ensures ∙ c.in_default.is
 
-pub returns-in-Ok-new-clause-settings : goal.returns-in-Ok-new-clause-settings
-returns-in-Ok-new-clause-settings g c =
-    (opened_so (opened_with c.in-Ok-new.lock) c.in-Ok.core.history c.args.config.now c.in-Ok-new.ensures.opening
-    c.in-Ok.ensures).0
+pub returns-in-Ok-new-2-clause-settings : goal.returns-in-Ok-new-2-clause-settings
+returns-in-Ok-new-2-clause-settings g c =
+    (opened_so (opened_with c.in-Ok-new-2.lock) c.in-Ok-new.core.history c.args.config.now c.in-Ok-new-2.ensures.opening
+    c.in-Ok-new.ensures).0
 
-pub returns-in-Ok-new-clause-lanes : goal.returns-in-Ok-new-clause-lanes
-returns-in-Ok-new-clause-lanes g c = c.in-Ok-new.ensures.sizes.0
+pub returns-in-Ok-new-2-clause-lanes : goal.returns-in-Ok-new-2-clause-lanes
+returns-in-Ok-new-2-clause-lanes g c = c.in-Ok-new-2.ensures.sizes.0
 
-pub returns-in-Ok-new-clause-passes : goal.returns-in-Ok-new-clause-passes
-returns-in-Ok-new-clause-passes g c = subst (λ n. AllNew c.in-Ok-new.lock n c.in-Ok-new.passes.items)
-    c.passes-passes.ensures c.in-Ok-new.ensures.dealt
+pub returns-in-Ok-new-2-clause-passes : goal.returns-in-Ok-new-2-clause-passes
+returns-in-Ok-new-2-clause-passes g c = subst (λ n. AllNew c.in-Ok-new-2.lock n c.in-Ok-new-2.passes.items)
+    c.passes-passes.ensures c.in-Ok-new-2.ensures.dealt
+
+pub returns-in-Ok-new-2-clause-keys : goal.returns-in-Ok-new-2-clause-keys
+returns-in-Ok-new-2-clause-keys g c =
+    let count : length c.in-Ok.keys.items ≡ length c.args.config.now.devices = search rules in
+    all_keys _ c.args.config.now c.in-Ok.keys.items
+    (opened_so (opened_with c.in-Ok-new-2.lock) c.in-Ok-new.core.history c.args.config.now
+    c.in-Ok-new-2.ensures.opening c.in-Ok-new.ensures).0
+    count c.in-Ok.ensures.each
 
 pub returns-in_default-new-clause-refused : goal.returns-in_default-new-clause-refused
 returns-in_default-new-clause-refused g c = inr (sym c.first_outside.ensures ∙ c.in_default.is, refl)
-
-pub returns-clause-refused : goal.returns-clause-refused
-returns-clause-refused g c = inr (sym c.first_outside.ensures ∙ c.in_default.is, refl)

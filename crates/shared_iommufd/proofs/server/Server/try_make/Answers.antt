@@ -2,7 +2,7 @@ use Rattle.std.proofs.Common.{refl}
 use Rattle.shared_iommufd.specs.Opening.{opened_with}
 use Rattle.shared_iommufd.specs.Servers.{settings_of}
 use Rattle.shared_iommufd.proofs.Shown.{if_ok, makes, same_pass, sees_same}
-use Rattle.shared_iommufd.proofs.server.Server.try_call.Goals as goal
+use Rattle.shared_iommufd.proofs.server.Server.try_make.Goals as goal
 
 pub returns-clause-made : goal.returns-clause-made
 returns-clause-made g c =

@@ -5,7 +5,7 @@ use Rattle.server_state.specs.Choice.{IsLooked}
 use Rattle.shared_iommufd.specs.Opening.{opened_with}
 use Rattle.shared_iommufd.specs.Servers.{settings_of}
 use Rattle.shared_iommufd.proofs.Shown.{answered, if_ok}
-use Rattle.shared_iommufd.proofs.server.Server.try_look.Goals as goal
+use Rattle.shared_iommufd.proofs.server.Server.try_ask.Goals as goal
 
 pub returns-clause-answer : goal.returns-clause-answer
 returns-clause-answer g c =

@@ -2,7 +2,7 @@ use Rattle.std.proofs.Common.{refl}
 use Rattle.shared_iommufd.specs.Opening.{opened_with}
 use Rattle.shared_iommufd.specs.Servers.{settings_of}
 use Rattle.shared_iommufd.proofs.Shown.{makes}
-use Rattle.shared_iommufd.proofs.server.Server.call.Goals as goal
+use Rattle.shared_iommufd.proofs.server.Server.make.Goals as goal
 
 pub returns-in-Ok-clause-made : goal.returns-in-Ok-clause-made
 returns-in-Ok-clause-made g c =

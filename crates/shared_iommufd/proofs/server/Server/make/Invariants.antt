@@ -1,7 +1,7 @@
 use Rattle.lane_lock.specs.Outcomes.{OnlySees}
 use Rattle.lane_lock.specs.Passes.{SamePass, view_of}
 use Rattle.shared_iommufd.specs.Servers.{IsPassOf}
-use Rattle.shared_iommufd.proofs.server.Server.call.Given as goal
+use Rattle.shared_iommufd.proofs.server.Server.make.Given as goal
 
 abbrev pub invariant-loop : goal.invariant-loop
 invariant-loop g l = record {

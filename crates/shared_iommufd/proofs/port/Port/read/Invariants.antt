@@ -1,0 +1,22 @@
+use Rattle.std.proofs.Common.{◌≡◌, ◌+◌, ◌<◌, ◌≤◌, ◌^◌, None, length}
+use Rattle.lane_lock.specs.Outcomes.{OnlySees}
+use Rattle.lane_lock.specs.Passes.{view_of}
+use Rattle.shared_iommufd.specs.Ports.{IsPortOf, SamePort}
+use Rattle.shared_iommufd.specs.PortReads.{HasRead}
+use Rattle.shared_iommufd.specs.Servers.{settings_of}
+use Rattle.shared_iommufd.proofs.port.Port.read.Given as goal
+
+abbrev pub invariant-loop : goal.invariant-loop
+invariant-loop g l = record {
+  can_next : (goal.iterator-loop g).can_next l.iterator';
+  is_finite : (goal.iterator-loop g).is_finite l.iterator';
+  owned : IsPortOf l.server l.self;
+  same : SamePort l.initial.self l.self;
+  sees : OnlySees (view_of l.initial.self.pass) (view_of l.self.pass);
+  last : l.self.last ≡ None;
+  within : l.done ≤ length l.buffer;
+  fits : l.iova.0 + l.done < 2 ^ 64;
+  read : HasRead (settings_of l.server) l.initial.self.device l.iova.0 l.initial.buffer l.initial.self.pass l.done
+      l.self.pass l.buffer;
+  idle : length l.buffer ≡ 0 → l.self.pass ≡ l.initial.self.pass;
+}

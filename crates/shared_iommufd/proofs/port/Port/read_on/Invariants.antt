@@ -1,0 +1,24 @@
+use Rattle.std.proofs.Common.{◌≡◌, ◌+◌, ◌-◌, ◌<◌, ◌≤◌, ◌^◌, length}
+use Rattle.lane_lock.specs.Outcomes.{OnlySees}
+use Rattle.lane_lock.specs.Passes.{view_of}
+use Rattle.shared_iommufd.specs.Ports.{IsPortOf, SamePort}
+use Rattle.shared_iommufd.specs.Servers.{settings_of}
+use Rattle.shared_iommufd.proofs.PortReads.{HasGoneOn}
+use Rattle.shared_iommufd.proofs.port.Port.read_on.Given as goal
+
+abbrev pub invariant-loop-done : goal.invariant-loop-done
+invariant-loop-done g l = record {
+  owned : IsPortOf l.server l.self;
+  same : SamePort l.initial.self l.self;
+  sees : OnlySees (view_of l.initial.self.pass) (view_of l.self.pass);
+  last : l.self.last ≡ l.initial.self.last;
+  from : l.initial.done ≤ l.done;
+  within : l.done ≤ length l.buffer;
+  fits : l.iova.0 + l.done < 2 ^ 64;
+  read : HasGoneOn (settings_of l.server) l.initial.self.device l.iova.0 l.initial.done l.initial.self.pass
+      l.initial.buffer l.done l.self.pass l.buffer;
+  idle : l.initial.done ≡ length l.buffer → l.self.pass ≡ l.initial.self.pass;
+}
+
+abbrev pub decreases-loop-done : goal.decreases-loop-done
+decreases-loop-done g l = length l.buffer - l.done

@@ -1,0 +1,20 @@
+use Rattle.std.proofs.Common.{◌≡◌, ◌+◌, ◌-◌, ◌<◌, ◌≤◌, ◌^◌, length}
+use Rattle.shared_iommufd.specs.Ports.{IsPortOf, SamePort}
+use Rattle.shared_iommufd.specs.Servers.{settings_of}
+use Rattle.shared_iommufd.proofs.PortWrites.{HasGoneOn}
+use Rattle.shared_iommufd.proofs.port.Port.write_on.Given as goal
+
+abbrev pub invariant-loop-done : goal.invariant-loop-done
+invariant-loop-done g l = record {
+  owned : IsPortOf l.server l.self;
+  same : SamePort l.initial.self l.self;
+  from : l.initial.done ≤ l.done;
+  within : l.done ≤ length l.bytes;
+  fits : l.iova.0 + l.done < 2 ^ 64;
+  written : HasGoneOn (settings_of l.server) l.initial.self.device l.iova.0 l.bytes l.initial.done l.initial.self.pass
+      l.initial.self.last l.done l.self.pass l.self.last;
+  idle : l.initial.done ≡ length l.bytes → l.self.pass ≡ l.initial.self.pass;
+}
+
+abbrev pub decreases-loop-done : goal.decreases-loop-done
+decreases-loop-done g l = length l.bytes - l.done
