@@ -28,7 +28,7 @@ use Rattle.shared_iommufd.specs.Made.{Makes}
 use Rattle.shared_iommufd.specs.Passes.{CoreGhosts, CorePass}
 use Rattle.shared_iommufd.specs.Seen.{AreNotices, HasSeen, IsAnswered}
 use Rattle.shared_iommufd.specs.Told.{TellsNotices}
-use Rattle.shared_iommufd.specs.declared.ioctl.IoctlAnswer.{IoctlAnswer}
+use Rattle.shared_iommufd.specs.declared.ioctl_answer.IoctlAnswer.{IoctlAnswer}
 use Rattle.shared_iommufd.specs.declared.kept_core.Entry.{Entry}
 use Rattle.shared_iommufd.specs.declared.kept_core.Entry.TheVariants as entry
 use Rattle.shared_iommufd.proofs.Entered.{is_history, one_entry, same_settings, told_more}

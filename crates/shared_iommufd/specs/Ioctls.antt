@@ -38,7 +38,7 @@ use Rattle.shared_iommufd.specs.Passes.{CoreGhosts, CorePass}
 use Rattle.shared_iommufd.specs.Seen.{HasSeen}
 use Rattle.shared_iommufd.specs.declared.error.TryError.{TryError}
 use Rattle.shared_iommufd.specs.declared.error.TryError.TheVariants as tried
-use Rattle.shared_iommufd.specs.declared.ioctl.IoctlAnswer.{IoctlAnswer}
+use Rattle.shared_iommufd.specs.declared.ioctl_answer.IoctlAnswer.{IoctlAnswer}
 
 module _ {A : Type 0} where
   -- this error is answered, if any, and these bytes are written back

@@ -8,26 +8,17 @@ ghost use Rattle.shared_iommufd.specs.Ioctls.{Answers, AnswersEvent, AnswersSet,
 
 use crate::error::TryError;
 use crate::guarded::{show, try_show};
+use crate::ioctl_answer::IoctlAnswer;
 use crate::kept_core::KeptCore;
 use crate::server::{Pass, Server};
 use ioctl_codec::{
     Asked, Command, DecodeError, RangesRequest, decode, encode_ranges, encode_reply_to, errno_of,
     ranges_errno,
 };
-use iofd_words::{Act, CallError, Errno, Event, FileNo, NoMemory, Refusal, Reply, Span};
+use iofd_words::{Act, CallError, Event, FileNo, NoMemory, Refusal, Reply, Span};
 use iova_ranges::RangeSet;
-use std::alloc::{Allocator, Global};
+use std::alloc::Allocator;
 use std::sync::Wait;
-
-/// What a call of ioctl answers.
-#[derive(Drop)]
-pub struct IoctlAnswer<A: Allocator = Global> {
-    /// The error; None where the call succeeded.
-    pub errno: Option<Errno>,
-    /// What is written back over the caller's structure. Where the call failed that is nothing, but for an
-    /// IOAS_IOVA_RANGES with too few places (EMSGSIZE).
-    pub bytes: Vec<u8, A>,
-}
 
 // Room for what is written back for an event, which `encode_reply_to` asks for.
 const ROOM: usize = 64;

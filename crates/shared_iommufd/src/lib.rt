@@ -8,6 +8,7 @@ mod close;
 mod error;
 mod guarded;
 mod ioctl;
+mod ioctl_answer;
 mod kept_core;
 mod limits;
 mod look;
@@ -22,7 +23,7 @@ mod port_write;
 mod server;
 
 pub use error::{CloseError, ConfigError, PortCause, PortError, TryError};
-pub use ioctl::IoctlAnswer;
+pub use ioctl_answer::IoctlAnswer;
 pub use iommufd_core::{Core, Stamp};
 pub use kept_core::{Entry, KeptCore};
 pub use lane_lock::{Busy, NotNow};
