@@ -215,7 +215,8 @@ module _ {A : Type 0} where
         reached.records,
         rest,
         reached.begin,
-        subst (λ (x : Settings). BeginNoRecord x.passes rest) (has_settings bytes s rest world index reached) torn,
+        subst (λ (x : Settings). BeginNoRecord x.passes rest) (has_settings bytes s rest world index reached)
+            torn.0,
         more,
         (let few : index + length rest ≤ length bytes = reached.few in omega (arith, is, few)),
       )

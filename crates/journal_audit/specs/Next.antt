@@ -31,7 +31,7 @@ next_of true = next.Follows
 next_of false = next.Not
 
 -- the bytes begin with a lawful record, and the world becomes the one after it; or with a record that is none; or
--- with no record
+-- with no record, and all of them are left
 abbrev pub IsNext : Type 0 → ℕ → World → World → List ℕ → List ℕ → Next → Type 0
 IsNext A at old new bytes rest next.Follows =
     (r : Record A) × (text : List ℕ) × SpellsRecord old.settings r text × (bytes ≡ text ++ rest) × Lawful at old r
@@ -39,4 +39,4 @@ IsNext A at old new bytes rest next.Follows =
 IsNext A at old new bytes rest next.Not =
     (raw : Raw) × (text : List ℕ) × Spells old.settings.passes raw text × (bytes ≡ text ++ rest)
     × ((r : Record A) → SpellsRecord old.settings r text → Lawful at old r → ⊥)
-IsNext A at old new bytes rest next.Torn = BeginNoRecord old.settings.passes bytes
+IsNext A at old new bytes rest next.Torn = BeginNoRecord old.settings.passes bytes × (rest ≡ bytes)

@@ -63,8 +63,9 @@ fn judge<A: Allocator + Copy>(
     }
 }
 
-/// What stands at the front of the bytes, at this position, and the bytes behind it. If it is a lawful record the world
-/// becomes the one after it. The error is want of memory; the world is in any state then.
+/// What stands at the front of the bytes, at this position, and the bytes behind it; all of them where there is no
+/// record. If it is a lawful one the world becomes the one after it. The error is want of memory; the world is in any
+/// state then.
 pub fn read_next<'a, A: Allocator + Copy>(
     alloc: A,
     at: u64,

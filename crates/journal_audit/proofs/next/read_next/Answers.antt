@@ -1,4 +1,4 @@
-use Rattle.std.proofs.Common.{ap, sym, subst, ◌∙◌}
+use Rattle.std.proofs.Common.{ap, refl, sym, subst, ◌∙◌}
 use Rattle.iofd_words.specs.World.{World}
 use Rattle.journal_audit.specs.Next.{IsNext}
 use Rattle.journal_audit.specs.declared.next.Next.{Next}
@@ -8,10 +8,13 @@ use Rattle.journal_audit.proofs.Judged.{none_read, told_next}
 use Rattle.journal_audit.proofs.next.read_next.Goals as goal
 
 pub returns-in-Err-Torn : goal.returns-in-Err-Torn
-returns-in-Err-Torn g c = λ r text rest spells is.
-    none_read _ _ c.in-Err-Torn.field-0-is (c.in-Err-Torn.ensures.only r text rest
-    (subst (λ n. Spells n r text)
-    (sym (c.passes.ensures ∙ ap (λ (w : World). w.settings.passes) c.world.view_is)) spells) is)
+returns-in-Err-Torn g c = (
+  λ r text rest spells is.
+      none_read _ _ c.in-Err-Torn.field-0-is (c.in-Err-Torn.ensures.only r text rest
+      (subst (λ n. Spells n r text)
+      (sym (c.passes.ensures ∙ ap (λ (w : World). w.settings.passes) c.world.view_is)) spells) is),
+  refl,
+)
 
 pub returns-in_ok-lawful-in-Ok : goal.returns-in_ok-lawful-in-Ok
 returns-in_ok-lawful-in-Ok g c =
