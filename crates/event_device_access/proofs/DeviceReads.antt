@@ -2,7 +2,7 @@
 use Rattle.std.proofs.Common.{◌≡◌, ℕ, Some, None, List, [], ◌∷◌, map, Contains, refl, sym, ◌∙◌, arith, is_some, cond}
 use Rattle.std.proofs.Common.{◌||◌, not, Bool, true, false}
 use Rattle.iofd_words.specs.declared.record.Record.{Record}
-use Rattle.event_device_access.proofs.DeviceWrites.{given_is, contained_map}
+use Rattle.event_device_access.proofs.DeviceWrites.{given_is}
 use Rattle.server_state.specs.Choice.{IsLooked, is_denial, is_fault}
 use Rattle.std.specs.List.{find, list_all, list_any}
 use Rattle.iofd_words.specs.FirstTrue.{first_true}
@@ -18,6 +18,7 @@ use Rattle.iofd_words.specs.declared.query.Answer.TheVariants as answer
 use Rattle.iofd_words.specs.declared.query.Query.{Query}
 use Rattle.iofd_words.specs.declared.query.Query.TheVariants as query
 use Rattle.iofd_words.specs.declared.refusal.Cause.{Cause}
+use Rattle.iofd_runs.proofs.PassFound.{contained_map}
 use Rattle.iofd_runs.proofs.PinnedAccess.{some_outcome}
 use Rattle.server_state.proofs.ViewShown.{same_query_refusal}
 use Rattle.event_device_access.specs.Outcomes.{given_outcome}

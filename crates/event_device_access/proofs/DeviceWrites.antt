@@ -47,6 +47,7 @@ use Rattle.server_state.specs.Shows.{Shows}
 use Rattle.server_state.specs.declared.state.State.{State}
 use Rattle.page_table_words.specs.Rows.{MappedPage}
 use Rattle.user_memory.specs.Memory.{Memory, reached}
+use Rattle.iofd_runs.proofs.PassFound.{contained_map}
 use Rattle.iofd_runs.proofs.PinnedAccess.{some_outcome}
 use Rattle.iofd_rows.proofs.Found.{found_passes as found_holds}
 use Rattle.server_state.specs.Choice.{WriteChosen, is_denial, without_cache, first_of}
@@ -112,12 +113,6 @@ given_is os o some is = by_denial (find is_denial os) refl
           lawful = rw here (found_contained is_denial os d found);
           denial = λ has. rw here (in_found is_denial os d found).1;
         }
-
-pub contained_map : {X Y : Type 0} (f : X → Y) (xs : List X) (x : X) → Contains xs x → Contains (map f xs) (f x)
-contained_map f [] x has = absurd (omega (arith, has.1))
-contained_map f (y ∷ xs) x (zero, below, same) = (0, omega arith, ap f same)
-contained_map f (y ∷ xs) x (suc k, below, same) =
-    let rest = contained_map f xs x (k, omega (arith, below), same) in (suc rest.0, omega (arith, rest.1), rest.2)
 
 holds_of_contained : {X : Type 0} (p : X → Bool) (xs : List X) (x : X) → list_all p xs ≡ true → Contains xs x
     → p x ≡ true

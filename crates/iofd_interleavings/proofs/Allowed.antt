@@ -1,12 +1,12 @@
 -- What a device is answered at a step is what the policy allows in the world of the step.
-use Rattle.std.proofs.Common.{map, ◌≡◌, ℕ, Option, Some, None, is_none, List, [], ◌∷◌, length, refl, sym, subst, arith}
-use Rattle.std.proofs.Common.{Contains}
+use Rattle.std.proofs.Common.{map, ◌≡◌, ℕ, zero, suc, Bool, true, false, cond, Option, Some, None, is_none, List, []}
+use Rattle.std.proofs.Common.{◌∷◌, length, refl, sym, subst, arith, Contains}
 use Rattle.std.specs.List.{list_any}
 use Rattle.iofd_words.specs.Answers.{Answers, write_reply}
 use Rattle.iofd_words.specs.Checks.{access_checks, device_write_checks, refusal}
 use Rattle.iofd_words.specs.FirstTrue.{first_true}
 use Rattle.iofd_words.specs.Frames.{bytes_at}
-use Rattle.iofd_words.specs.Look.{answers_in, answers_to, read_answer}
+use Rattle.iofd_words.specs.Look.{answers_in, answers_to, cached_answers, read_answer}
 use Rattle.iofd_words.specs.Pages.{offset_of}
 use Rattle.iofd_words.specs.Policy.{Passes, is_pass_at, outcomes}
 use Rattle.iofd_words.specs.Run.{IsAnswer, IsRun, Lawful, world_of}
@@ -21,12 +21,13 @@ use Rattle.iofd_words.specs.declared.numbers.Iova.{Iova}
 use Rattle.iofd_words.specs.declared.query.Answer.{Answer}
 use Rattle.iofd_words.specs.declared.query.Answer.TheVariants as answer
 use Rattle.iofd_words.specs.declared.query.Query.{Query}
-use Rattle.iofd_words.specs.declared.query.Query.TheVariants.{DeviceRead}
+use Rattle.iofd_words.specs.declared.query.Query.TheVariants.{CachedRead, DeviceRead}
 use Rattle.iofd_words.specs.declared.record.Record.{Record}
 use Rattle.iofd_words.specs.declared.refusal.Cause.{Cause}
 use Rattle.iofd_words.specs.declared.reply.Reply.{Reply}
 use Rattle.iofd_words.specs.declared.reply.Reply.TheVariants as reply
 use Rattle.iofd_rows.proofs.Bools.{and_true}
+use Rattle.iofd_runs.proofs.PassFound.{contained_map, pass_found}
 use Rattle.iofd_promises.proofs.Rows.{contains}
 use Rattle.iofd_promises.proofs.Spaces.{in_mapped}
 use Rattle.iofd_interleavings.specs.Caches.{Entry, Sound}
@@ -100,6 +101,36 @@ unfolding answers_in
 told_of_look settings records (DeviceRead device iova len) said told has is =
     let same : OfRead device iova len said ≡ told = cc in
     subst (λ (t : DeviceAnswer). Allows (world_of settings records) t) same has
+told_of_look settings records (CachedRead device iova len frame) said told has is =
+    let same : OfRead device iova len said ≡ told = cc in
+    subst (λ (t : DeviceAnswer). Allows (world_of settings records) t) same
+    (by_cause (first_true (access_checks (view (world_of settings records)) device iova len)) has)
+  where
+    passed : (b : Bool) → list_any (is_pass_at frame) (outcomes (world_of settings records) device iova.0 Read) ≡ b
+        → Contains (cond b (answer.Read
+        (bytes_at (world_of settings records).writes frame.0 (offset_of iova.0) len) ∷ []) []) said
+        → Contains (map (read_answer (world_of settings records) device iova.0 len)
+        (outcomes (world_of settings records) device iova.0 Read)) said
+    passed true is (zero, below, said_is) =
+        subst (Contains (map (read_answer (world_of settings records) device iova.0 len)
+        (outcomes (world_of settings records) device iova.0 Read))) said_is
+        (contained_map (read_answer (world_of settings records) device iova.0 len)
+        (outcomes (world_of settings records) device iova.0 Read) (Passes frame)
+        (pass_found frame (outcomes (world_of settings records) device iova.0 Read) is))
+    passed true is (suc place, below, said_is) = absurd (omega (arith, below))
+    passed false is (place, below, said_is) = absurd (omega (arith, below))
+
+    by_cause : (o : Option Cause) → Contains (elim o [
+      | Some cause ↦ answer.Refused (record { cause = cause }) ∷ []
+      | None ↦ cached_answers (world_of settings records) device iova len frame
+    ]) said → Contains (elim o [
+      | Some cause ↦ answer.Refused (record { cause = cause }) ∷ []
+      | None ↦ map (read_answer (world_of settings records) device iova.0 len)
+          (outcomes (world_of settings records) device iova.0 Read)
+    ]) said
+    by_cause (Some cause) has = has
+    by_cause None has =
+        passed (list_any (is_pass_at frame) (outcomes (world_of settings records) device iova.0 Read)) refl has
 told_of_look settings records query said told has is = cc
 
 -- ---- each step

@@ -17,7 +17,7 @@ use Rattle.iofd_words.specs.declared.numbers.Iova.{Iova}
 use Rattle.iofd_words.specs.declared.query.Answer.{Answer}
 use Rattle.iofd_words.specs.declared.query.Answer.TheVariants as answer
 use Rattle.iofd_words.specs.declared.query.Query.{Query}
-use Rattle.iofd_words.specs.declared.query.Query.TheVariants.{DeviceRead}
+use Rattle.iofd_words.specs.declared.query.Query.TheVariants.{CachedRead, DeviceRead}
 use Rattle.iofd_words.specs.declared.reply.Reply.{Reply}
 use Rattle.iofd_words.specs.declared.reply.Reply.TheVariants as reply
 use Rattle.iofd_interleavings.specs.Caches.{Entry}
@@ -40,6 +40,7 @@ answer_of_event e told = None
 
 abbrev pub answer_of_look : Query → Answer → Option DeviceAnswer
 answer_of_look (DeviceRead device iova len) told = Some (OfRead device iova len told)
+answer_of_look (CachedRead device iova len frame) told = Some (OfRead device iova len told)
 answer_of_look query told = None
 
 -- the answer that a device has at the step, made in this world

@@ -32,6 +32,7 @@ pub mod ObjectsGo
 pub mod OneMore
 pub mod OwnIds
 pub mod PagesToPin
+pub mod PassFound
 pub mod PinnedAccess
 pub mod PinsAfter
 pub mod RisingLists

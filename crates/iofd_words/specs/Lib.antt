@@ -33,5 +33,6 @@ pub mod Tables
 pub mod Turns
 pub mod Usable
 pub mod View
+pub mod Walk
 pub mod Width
 pub mod World

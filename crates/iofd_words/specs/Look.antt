@@ -1,6 +1,6 @@
 -- The answers to questions, which change nothing.
 use Rattle.std.specs.Prelude.{ℕ, ◌≡◌, ◌^◌, Bool, ◌&&◌, not, nat_lt, Option, Some, None, is_none, List, []}
-use Rattle.std.specs.Prelude.{◌∷◌, map}
+use Rattle.std.specs.Prelude.{◌∷◌, if◌then◌else◌, map}
 use Rattle.std.specs.List.{list_any}
 use Rattle.std.specs.Option.{option_map}
 use Rattle.iofd_words.specs.Attachments.{attachment_of}
@@ -17,7 +17,9 @@ use Rattle.iofd_words.specs.Policy.{Outcome, Passes, Denied, outcomes, fault_of,
 use Rattle.iofd_words.specs.Ranges.{AreMerged, in_spans}
 use Rattle.iofd_words.specs.Run.{world_of}
 use Rattle.iofd_words.specs.Settings.{Settings}
+use Rattle.iofd_words.specs.Turns.{turns_of}
 use Rattle.iofd_words.specs.View.{View, view}
+use Rattle.iofd_words.specs.Walk.{translation}
 use Rattle.iofd_words.specs.World.{World}
 use Rattle.iofd_words.specs.declared.fault.AccessKind.{AccessKind}
 use Rattle.iofd_words.specs.declared.fault.AccessKind.TheVariants.{Read}
@@ -29,8 +31,8 @@ use Rattle.iofd_words.specs.declared.numbers.ObjId.{ObjId}
 use Rattle.iofd_words.specs.declared.query.Answer.{Answer}
 use Rattle.iofd_words.specs.declared.query.Answer.TheVariants as answer
 use Rattle.iofd_words.specs.declared.query.Query.{Query}
-use Rattle.iofd_words.specs.declared.query.Query.TheVariants.{AccessRead, AttachedTo, DeviceRead, FreeFrames, Held}
-use Rattle.iofd_words.specs.declared.query.Query.TheVariants.{UserRead}
+use Rattle.iofd_words.specs.declared.query.Query.TheVariants.{AccessRead, AttachedTo, CachedRead, DeviceRead}
+use Rattle.iofd_words.specs.declared.query.Query.TheVariants.{FreeFrames, Held, Turns, UserRead, WalkFor}
 use Rattle.iofd_words.specs.declared.record.Record.{Record}
 use Rattle.iofd_words.specs.declared.refusal.Cause.{Cause}
 use Rattle.iofd_words.specs.declared.refusal.Cause.TheVariants as cause
@@ -43,6 +45,9 @@ query_checks v (AccessRead file access iova len) = held_access_checks v file acc
 query_checks v FreeFrames = []
 query_checks v (Held user) = (cause.Id, not (is_user v.settings user)) ∷ []
 query_checks v (AttachedTo device) = (cause.Id, not (is_device v.settings device)) ∷ []
+query_checks v (Turns device) = (cause.Id, not (is_device v.settings device)) ∷ []
+query_checks v (WalkFor device iova) = (cause.Id, not (is_device v.settings device)) ∷ []
+query_checks v (CachedRead device iova len frame) = access_checks v device iova len
 
 -- those of the question for an address space's usable ranges
 abbrev pub ranges_checks : View → FileNo → ObjId → List (Cause × Bool)
@@ -74,6 +79,13 @@ abbrev pub page_bytes : World → ℕ → ℕ → Option FrameNo → List Answer
 page_bytes w address len None = []
 page_bytes w address len (Some frame) = answer.Read (bytes_at w.writes frame.0 (offset_of address) len) ∷ []
 
+-- what a device reads at a frame that was kept for it: its bytes, where the policy lets the read pass there
+abbrev pub cached_answers : World → DeviceNo → Iova → ℕ → FrameNo → List Answer
+cached_answers w device iova len frame =
+    if list_any (is_pass_at frame) (outcomes w device iova.0 Read)
+    then answer.Read (bytes_at w.writes frame.0 (offset_of iova.0) len) ∷ []
+    else []
+
 -- the lawful answers to a question that nothing refuses, by the world and the records that led to it
 abbrev pub lawful_answers : {A : Type 0} → World → List (Record A) → Query → List Answer
 lawful_answers w records (DeviceRead device iova len) =
@@ -86,6 +98,9 @@ lawful_answers w records FreeFrames =
 lawful_answers w records (Held user) = answer.Count (held_by (pinned_frame w.pins) w.memory user) ∷ []
 lawful_answers w records (AttachedTo device) =
     answer.Attached (option_map (λ a. a.hwpt) (attachment_of w.attachments device)) ∷ []
+lawful_answers w records (Turns device) = answer.Count (turns_of device records) ∷ []
+lawful_answers w records (WalkFor device iova) = answer.Walk (translation (view w) device iova.0) ∷ []
+lawful_answers w records (CachedRead device iova len frame) = cached_answers w device iova len frame
 
 -- all lawful answers, in this world and after these records
 unfoldable pub answers_in : {A : Type 0} → World → List (Record A) → Query → List Answer

@@ -31,7 +31,7 @@ pub use lists::{FrameList, SpanList};
 pub use numbers::{
     DeviceNo, FileNo, FrameNo, Iova, ObjId, PAGE_SIZE, PassNo, SourceId, USER_END, UserNo,
 };
-pub use query::{Answer, Query};
+pub use query::{Answer, Query, Translation};
 pub use range::{IovaRange, RangeList};
 pub use record::Record;
 pub use refusal::{Cause, Errno, NoMemory, Refusal};

@@ -2,8 +2,16 @@
 
 use crate::burst::Burst;
 use crate::fault::Fault;
-use crate::numbers::{DeviceNo, FileNo, Iova, ObjId, UserNo};
+use crate::flags::Rights;
+use crate::numbers::{DeviceNo, FileNo, FrameNo, Iova, ObjId, UserNo};
 use crate::refusal::Refusal;
+
+/// What a device's page is translated to: the frame at which accesses pass, and the rights of the area.
+#[derive(Clone, Copy, PartialEq, Eq)]
+pub struct Translation {
+    pub frame: FrameNo,
+    pub rights: Rights,
+}
 
 /// A question about the world. It changes nothing and isn't recorded.
 #[derive(Clone, Copy)]
@@ -33,6 +41,18 @@ pub enum Query {
     Held(UserNo),
     /// By which hardware page table a device translates.
     AttachedTo(DeviceNo),
+    /// How many turns a device has had: how often it was attached, detached or flushed, refused or not. As long as the
+    /// number is the same, translations that are kept for the device are good.
+    Turns(DeviceNo),
+    /// What a device's page at an address is translated to: by a live area of the address space by which it translates.
+    WalkFor { device: DeviceNo, iova: Iova },
+    /// A device reads `len` bytes at a frame that was kept for it. It has to be one at which the read may pass now.
+    CachedRead {
+        device: DeviceNo,
+        iova: Iova,
+        len: u8,
+        frame: FrameNo,
+    },
 }
 
 /// The answer to a question.
@@ -44,6 +64,8 @@ pub enum Answer {
     Count(u64),
     /// The id of the hardware page table, in the file that the device is bound to; None where it isn't attached.
     Attached(Option<ObjId>),
+    /// What the page is translated to; None where no live area maps it for the device.
+    Walk(Option<Translation>),
     /// The access was denied.
     Fault(Fault),
     /// The question was refused.

@@ -19,6 +19,7 @@ use Rattle.iofd_words.specs.declared.record.Record.{Record}
 use Rattle.iofd_words.specs.declared.refusal.Cause.{Cause}
 use Rattle.iofd_words.specs.declared.reply.Reply.{Reply}
 use Rattle.iofd_runs.proofs.OneMore.{run_more, world_more}
+use Rattle.iofd_runs.proofs.PassFound.{pass_found}
 use Rattle.iofd_runs.specs.Fits.{RowsFit}
 use Rattle.server_state.proofs.KeepsUsed.{keeps_used}
 use Rattle.iofd_runs.proofs.SameSettings.{changed_settings}
@@ -43,19 +44,6 @@ after_settings at w r = by_cause (refusal w r.event)
     by_cause (Some cause) = refl
 
 -- ---- a cached frame is one at which the policy lets the write pass
-
-pass_found : (frame : FrameNo) (os : List Outcome) → list_any (is_pass_at frame) os ≡ true → Contains os (Passes frame)
-pass_found frame [] is = cc
-pass_found frame (Denied reason ∷ os) is =
-    let rest = pass_found frame os is in (suc rest.0, omega (arith, rest.1), rest.2)
-pass_found frame (Passes at ∷ os) is = by_test (eqb at.0 frame.0) refl is (λ later. pass_found frame os later)
-  where
-    by_test : (b : Bool) → eqb at.0 frame.0 ≡ b → (b || list_any (is_pass_at frame) os) ≡ true
-        → (list_any (is_pass_at frame) os ≡ true → Contains os (Passes frame))
-        → Contains (Passes at ∷ os) (Passes frame)
-    by_test true same is later = let numbers : at.0 ≡ frame.0 =
-        search (same, arith, nat_tests) in (0, omega arith, ap (λ n. Passes (record { 0 = n })) numbers)
-    by_test false same is later = let rest = later is in (suc rest.0, omega (arith, rest.1), rest.2)
 
 pub may_use : {A : Type 0} (h : History A) (e : Event A) (via : Option FrameNo) → may_apply h e via ≡ true
     → MayUse (world h) e via

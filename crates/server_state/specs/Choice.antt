@@ -45,6 +45,7 @@ abbrev pub is_fault : Answer → Bool
 is_fault (answer.Read bytes) = false
 is_fault (answer.Count count) = false
 is_fault (answer.Attached hwpt) = false
+is_fault (answer.Walk translation) = false
 is_fault (answer.Fault fault) = true
 is_fault (answer.Refused refusal) = false
 
