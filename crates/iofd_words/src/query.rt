@@ -45,7 +45,10 @@ pub enum Query {
     /// number is the same, translations that are kept for the device are good.
     Turns(DeviceNo),
     /// What a device's page at an address is translated to: by a live area of the address space by which it translates.
-    WalkFor { device: DeviceNo, iova: Iova },
+    WalkFor {
+        device: DeviceNo,
+        iova: Iova,
+    },
     /// A device reads `len` bytes at a frame that was kept for it. It has to be one at which the read may pass now.
     CachedRead {
         device: DeviceNo,
