@@ -2,7 +2,7 @@
 //! lock. With the word `times` it tells how many nanoseconds a read took, at the least of some tries; without, it
 //! reads a few times, and tells how many reads there were.
 //!
-//! Lanes side by side share a line of cache, since a lane's word and slot have 8 bytes each; lanes 8 apart don't.
+//! No two lanes share a line of cache, so a lane each, side by side, is to take no longer than lanes 8 apart.
 #![tactic(auto)]
 
 mod crowd;

@@ -1,6 +1,6 @@
 -- A writer takes the lanes upwards, and puts them back downwards.
-use Rattle.std.proofs.Common.{true, ◌≡◌, ◌≢◌, inl, inr, ⊎_elim, ℕ, zero, suc, ◌+◌, ◌-◌, ◌<◌, ◌≤◌, List, ◌∷◌, length}
-use Rattle.std.proofs.Common.{drop}
+use Rattle.std.proofs.Common.{true, ◌≡◌, ◌≢◌, inl, inr, ⊎_elim, ℕ, zero, suc, ◌+◌, ◌-◌, ◌<◌, ◌≤◌, List, ◌∷◌}
+use Rattle.std.proofs.Common.{length, drop}
 use Rattle.std.proofs.Common.{get_or, set, length-set, sym, refl, ap, ◌∙◌, subst, arith, Option, Some, None}
 use Rattle.std.proofs.Common.{get_or-set_same, get_or-set_other}
 use mathlib.Core.Logic.{dite}
@@ -10,7 +10,7 @@ use Rattle.atomic_table.specs.Table.{rest}
 use Rattle.lane_lock.specs.declared.table.View.{View}
 use Rattle.lane_lock.specs.declared.refusal.Busy.{Busy}
 use Rattle.lane_lock.specs.Outcomes.{MetHeld, Stops}
-use Rattle.lane_lock.specs.Rule.{Names}
+use Rattle.lane_lock.specs.Rule.{Names, place}
 use Rattle.lane_lock.proofs.Keeps.{names_some}
 use Rattle.lane_lock.specs.Hands.{Shows, Stack, Climbed, Lowered}
 use Rattle.lane_lock.specs.Steps.{Mine, Takes, IsShare, Offers}
@@ -24,10 +24,10 @@ pin_kept (suc n) m q = refl
 
 module _ {K E Z : Type 0} (hist : K → List E) (by : E → ℕ) where
   stacked : (h : List E) (n : ℕ) (x : Option (Arc K Z)) (hand up below : List (ℕ × Option (Arc K Z)))
-      → up ≡ (suc n, x) ∷ hand → Shows hist h x → Stack (Shows hist h) n hand below
+      → up ≡ (place (suc n), x) ∷ hand → Shows hist h x → Stack (Shows hist h) n hand below
       → Stack (Shows hist h) (suc n) up below
   stacked h n x hand up below e s t =
-      (x, e ∙ (λ i. (suc n, x) ∷ ap rest (sym e) i), s, subst (λ c. Stack (Shows hist h) n c below) (ap rest (sym e)) t)
+      (x, e ∙ (λ i. (place (suc n), x) ∷ ap rest (sym e) i), s, subst (λ c. Stack (Shows hist h) n c below) (ap rest (sym e)) t)
 
   shows_it : (v v' : View E) (k w : ℕ) (x : Option (Arc K Z)) → v.pin ≢ 0 → Takes hist by v k w x v'
       → Shows hist v.seen x × (v' ≡ holding v k w)
@@ -36,7 +36,7 @@ module _ {K E Z : Type 0} (hist : K → List E) (by : E → ℕ) where
       t.3 p in (same, t.0 ∙ (λ i. record v { held = set v.held k w; seen = same i; pin = pin_kept v.pin (k + 1) p i }))
 
   pub climb_one : (m m' m'' : Mine K E Z) (w n : ℕ) (x : Option (Arc K Z)) → m.0.pin ≢ 0 → suc n < length m.0.held
-      → Climbed hist m w n m' → m''.1 ≡ (suc n, x) ∷ m'.1 → Takes hist by m'.0 (suc n) w x m''.0
+      → Climbed hist m w n m' → m''.1 ≡ (place (suc n), x) ∷ m'.1 → Takes hist by m'.0 (suc n) w x m''.0
       → get_or m'.0.held (suc n) 0 ≡ 0
       → Climbed hist m w (suc n) m''
   climb_one m m' m'' w n x pin lt c hand takes blank =
@@ -72,7 +72,7 @@ module _ {K E Z : Type 0} (hist : K → List E) (by : E → ℕ) where
       record { stack = refl; view = refl; long = refl; low = λ k p le. absurd (omega arith); else_same = λ k p. refl }
 
   pub climb_next : (m m' m'' : Mine K E Z) (w lane : ℕ) (x : Option (Arc K Z)) → 0 < lane → m.0.pin ≢ 0
-      → lane < length m.0.held → Climbed hist m w (lane - 1) m' → m''.1 ≡ (lane, x) ∷ m'.1
+      → lane < length m.0.held → Climbed hist m w (lane - 1) m' → m''.1 ≡ (place lane, x) ∷ m'.1
       → Takes hist by m'.0 lane w x m''.0 → get_or m'.0.held lane 0 ≡ 0
       → Climbed hist m w ((lane + 1) - 1) m''
   climb_next m m' m'' w zero x some_lane pin lt c hand takes blank = absurd (omega arith)
@@ -83,12 +83,12 @@ module _ {K E Z : Type 0} (hist : K → List E) (by : E → ℕ) where
 
 module _ {K E Z : Type 0} where
   pub lower_top : (P : Option (Arc K Z) → Type 0) (m m' : Mine K E Z) (n lane : ℕ) → 1 < lane
-      → Lowered P n (lane - 1) m m' → (x : Option (Arc K Z)) × (m'.1 ≡ (lane - 1, x) ∷ rest m'.1) × P x
+      → Lowered P n (lane - 1) m m' → (x : Option (Arc K Z)) × (m'.1 ≡ (place (lane - 1), x) ∷ rest m'.1) × P x
   lower_top P m m' n zero some l = absurd (omega arith)
   lower_top P m m' n (suc zero) some l = absurd (omega arith)
   lower_top P m m' n (suc (suc k)) some l = let a : suc k ≡ suc (suc k) - 1 =
       omega arith in let s = (subst (λ (j : ℕ). Lowered P n j m m') (sym a) l).stack in
-      (s.0, s.1 ∙ ap (λ (j : ℕ). (j, s.0) ∷ rest m'.1) a, s.2)
+      (s.0, s.1 ∙ ap (λ (j : ℕ). (place j, s.0) ∷ rest m'.1) a, s.2)
 
   -- a lane that is left has what it had
   pub lower_held : (P : Option (Arc K Z) → Type 0) (m m' : Mine K E Z) (n k j : ℕ) → Lowered P n k m m' → j ≤ k
@@ -167,7 +167,7 @@ module _ {K E Z : Type 0} where
 
   -- it was put back with another share in its slot
   pub refill_next : (P : Option (Arc K Z) → Type 0) (m m' me m'' : Mine K E Z) (n lane : ℕ) (x : Option (Arc K Z))
-      → 1 < lane → lane - 1 ≤ n → Lowered P n (lane - 1) m m' → me ≡ (m'.0, (lane - 1, x) ∷ rest m'.1)
+      → 1 < lane → lane - 1 ≤ n → Lowered P n (lane - 1) m m' → me ≡ (m'.0, (place (lane - 1), x) ∷ rest m'.1)
       → m'' ≡ (freed me.0 (lane - 1) me.0.pin, rest me.1) → Lowered P n (lane - 1 - 1) m m''
   refill_next P m m' me m'' n lane x some within l filled now = lower_next P m m' m'' n lane some within l
       (now ∙ ap (λ (u : Mine K E Z). (freed u.0 (lane - 1) u.0.pin, rest u.1)) filled)
@@ -187,13 +187,13 @@ module _ {K E Z : Type 0} where
 
   pub refill_offer : (hist : K → List E) (P : Option (Arc K Z) → Type 0) (m m' me : Mine K E Z) (n low lane : ℕ)
       (x : Option (Arc K Z)) → low + 1 < lane → Lowered P n (lane - 1) m m'
-      → me ≡ (m'.0, (lane - 1, x) ∷ rest m'.1) → m.0.pin ≡ low + 1 → Shows hist m.0.seen x
+      → me ≡ (m'.0, (place (lane - 1), x) ∷ rest m'.1) → m.0.pin ≡ low + 1 → Shows hist m.0.seen x
       → Offers hist me.0 (lane - 1) me.1
   refill_offer hist P m m' me n low lane x some l filled at shows =
       let pin : me.0.pin ≡ low + 1 =
       ap (λ (u : Mine K E Z). u.0.pin) filled ∙ (ap (λ (v : View E). v.pin) l.view ∙ at) in (
         x,
-        in_front me.1 (rest m'.1) (lane - 1, x) (ap (λ (u : Mine K E Z). u.1) filled),
+        in_front me.1 (rest m'.1) (place (lane - 1), x) (ap (λ (u : Mine K E Z). u.1) filled),
         is_share hist me.0 (lane - 1) x (λ z. omega arith) (λ z. omega (arith, pin, z))
             (subst (λ (h : List E). Shows hist h x)
             (sym (ap (λ (u : Mine K E Z). u.0.seen) filled ∙ ap (λ (v : View E). v.seen) l.view)) shows),

@@ -12,7 +12,7 @@ use Rattle.lane_lock.specs.declared.table.View.{View}
 use Rattle.lane_lock.specs.declared.table.Known.{Known}
 use Rattle.lane_lock.specs.declared.table.Setup.{Setup}
 use Rattle.lane_lock.specs.Closing.{AllHere, Closes}
-use Rattle.lane_lock.specs.Rule.{Ruled}
+use Rattle.lane_lock.specs.Rule.{Ruled, place}
 
 module _ {K E : Type 0} (Z : Type 0) (hist : K → List E) (by : E → ℕ) (key : Setup K) where
   abbrev V : Type 0
@@ -23,8 +23,8 @@ module _ {K E : Type 0} (Z : Type 0) (hist : K → List E) (by : E → ℕ) (key
 
   -- every lane is home
   all_home : (s : State (Option (Arc K Z)) V) (r : Rule s) (id : ℕ) (v : V) → get_elem? s.views id ≡ some v
-      → AllHere key.passes v → (k : ℕ) → get_or s.words k 0 ≡ 0
-  all_home s r id v at here k = dite (ℕ_discrete (get_or s.words k 0) 0) (λ z. z)
+      → AllHere key.passes v → (k : ℕ) → get_or s.words (place k) 0 ≡ 0
+  all_home s r id v at here k = dite (ℕ_discrete (get_or s.words (place k) 0) 0) (λ z. z)
       (λ n. let o = r.named k n in let h = o.3 in let mine = r.each id v at in
       let there : r.seat o.0 ≡ id = ⊎_elim (λ (e : o.0 ≡ v.number). ap r.seat e ∙ (mine.stands here.stands).1)
       (λ (t : (i : ℕ) × (u : Known E) × (get_elem? v.others i ≡ some u) × (o.0 ≡ u.number)). ap r.seat t.3

@@ -6,21 +6,21 @@ use Rattle.std.proofs.Common.{ne_eqb}
 use Rattle.std.proofs.lemmas.List.{drop-append-le}
 use Rattle.std.proofs.Math.Seq.{drop-append_seam}
 use mathlib.Core.Logic.{dite}
-use mathlib.Core.Option.{none, some, some-injective, some-ne-none}
+use mathlib.Core.Option.{some, some-injective, some-ne-none}
 use native.Mathlib.Decide.{ℕ_discrete, dec_le}
 use lib.ListN.{get_elem?}
 use Rattle.std.specs.Arc.{arc_value}
 use Rattle.std.specs.declared.sync.Arc.{Arc}
-use Rattle.atomic_table.specs.Table.{State, step, rest, gives, stepped, Allows}
+use Rattle.atomic_table.specs.Table.{State, rest, gives, stepped, Allows}
 use Rattle.atomic_table.proofs.Lists.{at_set, set_here, set_else}
 use Rattle.lane_lock.specs.declared.table.View.{View}
 use Rattle.lane_lock.specs.declared.table.Known.{Known}
 use Rattle.lane_lock.specs.declared.table.Setup.{Setup}
 use Rattle.lane_lock.specs.History.{StartsWith, made_by, Legal}
-use Rattle.lane_lock.specs.Rule.{Names, Knows, Has, Ruled}
+use Rattle.lane_lock.specs.Rule.{Names, Knows, Has, Ruled, place, lane_at}
 use Rattle.lane_lock.specs.Steps.{Mine, committed, top_history}
 use Rattle.lane_lock.specs.Views.{written}
-use Rattle.lane_lock.proofs.Keeps.{names_one, inside, at_inside, none_here}
+use Rattle.lane_lock.proofs.Keeps.{apart_there, lane_of_place, names_one, inside, at_inside, none_here}
 
 module _ {E : Type 0} (by : E → ℕ) where
   pub made_by-append : (p : ℕ) (xs ys : List E) → made_by by p (xs ++ ys) ≡ made_by by p xs ++ made_by by p ys
@@ -95,6 +95,13 @@ module _ {K E : Type 0} (Z : Type 0) (hist : K → List E) (by : E → ℕ) (key
       let there : id < length s.views = at_inside s.views id d at in
       let zero_word : get_or (set s.words 0 0) 0 0 ≡ 0 = get_or-set_same s.words 0 0 0 (omega arith) in
       let back = set_here s.homes 0 (some (Some a)) (omega arith) in
+      let zero_now : (i : ℕ) → i ≡ 0 → get_or (set s.words 0 0) (place i) 0 ≡ 0 =
+      λ i e. ap (λ (c : ℕ). get_or (set s.words 0 0) (place c) 0) e ∙ zero_word in
+      let as_was : (i : ℕ) → i ≢ 0 → get_or (set s.words 0 0) (place i) 0 ≡ get_or s.words (place i) 0 =
+      λ i e. get_or-set_other s.words 0 (place i) 0 0 (apart_there i 0 e) in
+      let beside : (i : ℕ) → i ≢ 0 → get_elem? (set s.homes 0 (some (Some a))) (place i)
+      ≡ get_elem? s.homes (place i) =
+      λ i e. set_else s.homes 0 (place i) (some (Some a)) (apart_there i 0 e) in
       let mine_now : made_by by d.number (drop base h') ≡ d.made ++ x ∷ [] =
       ap (λ l. made_by by d.number (drop base l)) next
       ∙ (makes_on by d.number base r.history x base_le ∙ (λ i. std.4.makes i ++ made_one by d.number x made i)) in
@@ -108,25 +115,25 @@ module _ {K E : Type 0} (Z : Type 0) (hist : K → List E) (by : E → ℕ) (key
         few = r.few;
         opened = subst (λ l. StartsWith l (hist key.value.value)) (sym next)
             (begins_on by r.history (hist key.value.value) x r.opened);
-        home = λ i l z. dite (ℕ_discrete i 0) (λ e. (Some a, ap (get_elem? (set s.homes 0 (some (Some a)))) e ∙ back))
-            (λ e. absurd (all i l (sym (mine.held i (all i l)).0 ∙ (sym (get_or-set_other s.words 0 i 0 0 e) ∙ z))));
-        out =
-            λ i n. dite (ℕ_discrete i 0) (λ e. absurd (n (ap (λ (c : ℕ). get_or (set s.words 0 0) c 0) e ∙ zero_word)))
-            (λ e. set_else s.homes 0 i (some (Some a)) e ∙ r.out i (λ z. n (get_or-set_other s.words 0 i 0 0 e ∙ z)));
+        home = λ i l z. dite (ℕ_discrete i 0) (λ e. (
+          Some a,
+          ap (λ (c : ℕ). get_elem? (set s.homes 0 (some (Some a))) (place c)) e ∙ back,
+        ))
+            (λ e. absurd (all i l (sym (mine.held i (all i l)).0 ∙ (sym (as_was i e) ∙ z))));
+        out = λ i n. dite (ℕ_discrete i 0) (λ e. absurd (n (zero_now i e)))
+            (λ e. beside i e ∙ r.out i (λ z. n (as_was i e ∙ z)));
         shown = λ i b e. dite (ℕ_discrete i 0)
             (λ z. let same : Some b ≡ Some a = some-injective (Some b) (Some a)
             (some-injective (some (Some b)) (some (Some a)) (sym e
-            ∙ (ap (get_elem? (set s.homes 0 (some (Some a)))) z ∙ back))) in let one : b ≡ a = cc in ap (λ
+            ∙ (ap (λ (c : ℕ). get_elem? (set s.homes 0 (some (Some a))) (place c)) z ∙ back))) in let one : b ≡ a = cc in ap (λ
             (c : Arc K Z). hist (arc_value c)) one)
-            (λ z. let old : get_elem? s.homes i ≡ some (some (Some b)) = sym (set_else s.homes 0 i (some (Some a)) z)
-            ∙ e in
-            let lt = at_inside s.homes i (some (Some b)) old in let held = all i (omega arith) in
-            absurd (none_here s.homes i (Some b) (r.out i (λ q. held (sym (mine.held i held).0 ∙ q))) old));
+            (λ z. let old : get_elem? s.homes (place i) ≡ some (some (Some b)) = sym (beside i z) ∙ e in
+            let lt = at_inside s.homes (place i) (some (Some b)) old in let held = all i (omega arith) in
+            absurd (none_here s.homes (place i) (Some b) (r.out i (λ q. held (sym (mine.held i held).0 ∙ q))) old));
         filled = λ e. let same : Some a ≡ None =
             some-injective (Some a) None (some-injective (some (Some a)) (some None) (sym back ∙ e)) in cc;
-        named =
-            λ i n. dite (ℕ_discrete i 0) (λ e. absurd (n (ap (λ (c : ℕ). get_or (set s.words 0 0) c 0) e ∙ zero_word)))
-            (λ e. let same = get_or-set_other s.words 0 i 0 0 e in let o = r.named i (λ z. n (same ∙ z)) in (
+        named = λ i n. dite (ℕ_discrete i 0) (λ e. absurd (n (zero_now i e)))
+            (λ e. let same = as_was i e in let o = r.named i (λ z. n (same ∙ z)) in (
               o.0,
               o.1,
               subst (Names o.0) (sym same) o.2,
@@ -153,7 +160,7 @@ module _ {K E : Type 0} (Z : Type 0) (hist : K → List E) (by : E → ℕ) (key
                   (n (ap (λ (c : ℕ). get_or (set d.held 0 0) c 0) e
                   ∙ get_or-set_same d.held 0 0 0 (let l = std.3 in omega arith))))
                   (λ e. let now = get_or-set_other d.held 0 i 0 0 e in let h = mine.held i (λ z. n (now ∙ z)) in (
-                    get_or-set_other s.words 0 i 0 0 e ∙ (h.0 ∙ sym now),
+                    as_was i e ∙ (h.0 ∙ sym now),
                     up,
                     subst (Names d.number) (sym now) h.2,
                   ));
@@ -175,8 +182,8 @@ module _ {K E : Type 0} (Z : Type 0) (hist : K → List E) (by : E → ℕ) (key
           dite (ℕ_discrete (get_or v.held i 0) 0) (λ z. z)
           (λ n. let theirs = (r.each j v there).held i n in let mine = r.each id d at in
           let wide = r.wide in let lt =
-          inside s.words i (λ z. n (sym theirs.0 ∙ z)) in let ours = mine.held i (all i (omega arith)) in
-          let same : v.number ≡ d.number = names_one v.number d.number (get_or s.words i 0)
+          inside s.words (place i) (λ z. n (sym theirs.0 ∙ z)) in let ours = mine.held i (all i (omega arith)) in
+          let same : v.number ≡ d.number = names_one v.number d.number (get_or s.words (place i) 0)
           (subst (Names v.number) (sym theirs.0) theirs.2) (subst (Names d.number) (sym ours.0) ours.2) in
           absurd (other (sym ((r.each j v there).stands theirs.1).1 ∙ (ap r.seat same ∙ (mine.stands up).1))))
 
@@ -207,8 +214,8 @@ module _ {K E : Type 0} (Z : Type 0) (hist : K → List E) (by : E → ℕ) (key
 
       has : (s : St) (r : Rule s) (id i q pin : ℕ) (d : V) (h' : List E) → get_elem? s.views id ≡ some d → i ≢ 0
           → id < length s.views
-          → Has s.views (r.seat q) q i (get_or (set s.words 0 0) i 0)
-          → Has (set s.views id (written d 0 h' pin)) (r.seat q) q i (get_or (set s.words 0 0) i 0)
+          → Has s.views (r.seat q) q i (get_or (set s.words 0 0) (place i) 0)
+          → Has (set s.views id (written d 0 h' pin)) (r.seat q) q i (get_or (set s.words 0 0) (place i) 0)
       has s r id i q pin d h' at e there h = let w : V = written d 0 h' pin in dite (ℕ_discrete (r.seat q) id)
           (λ z. let v = h.0 in let one : v ≡ d = some-injective v d (sym h.1 ∙ (ap (get_elem? s.views) z ∙ at)) in (
             w,
@@ -227,13 +234,12 @@ module _ {K E : Type 0} (Z : Type 0) (hist : K → List E) (by : E → ℕ) (key
 
   -- step 4
   pub can_commit : (slots id : ℕ) (me : Mine K E Z) (a : Arc K Z) (x : E) → me.1 ≡ (0, Some a) ∷ rest me.1
-      → me.0.stands ≡ true → me.0.others ≡ [] → key.lanes ≡ slots → length me.0.held ≡ slots
-      → ((k : ℕ) → k < slots → get_or me.0.held k 0 ≢ 0) → me.0.pin ≢ 0 → hist (arc_value a) ≡ me.0.seen ++ x ∷ []
+      → me.0.stands ≡ true → me.0.others ≡ [] → place key.lanes ≡ slots → length me.0.held ≡ key.lanes
+      → ((k : ℕ) → k < key.lanes → get_or me.0.held k 0 ≢ 0) → me.0.pin ≢ 0 → hist (arc_value a) ≡ me.0.seen ++ x ∷ []
       → by x ≡ me.0.number
-      → Allows Rule slots id me 0 (λ _. 0) (λ _. committed hist (step slots 0 0 0 none) me 0)
-  can_commit slots id me a x hand up alone count long all' pinned grown made s r _ at _ = let all : (k : ℕ)
-      → k < key.lanes → get_or me.0.held k 0 ≢ 0 =
-      λ k l. all' k (omega arith) in let p = pin_for key.lanes me.0.held (omega arith) all (dec_le 2 key.lanes) in
+      → Allows Rule slots id me 0 (λ _. 0) (λ _. committed hist (lane_at slots) me)
+  can_commit slots id me a x hand up alone count long all pinned grown made s r _ at _ =
+      let p = pin_for key.lanes me.0.held long all (dec_le 2 key.lanes) in
       let top : top_history hist me.1 me.0.seen ≡ hist (arc_value a) =
       ap (λ (c : List (ℕ × Option (Arc K Z))). top_history hist c me.0.seen) hand in (
         written me.0 0 (hist (arc_value a)) p.0,
@@ -242,5 +248,9 @@ module _ {K E : Type 0} (Z : Type 0) (hist : K → List E) (by : E → ℕ) (key
         subst (λ (c : List (ℕ × Option (Arc K Z))). Rule
             (stepped s 0 0 id c (written me.0 0 (hist (arc_value a)) p.0) gives)) (sym hand) (grows s r id p.0 me.0
             a x at up alone all pinned grown made p.1),
-        ((λ i. (written me.0 0 (sym top i) p.0, rest me.1)), (λ l. p.2 (omega arith)), p.1),
+        (
+          (λ i. (written me.0 0 (sym top i) p.0, rest me.1)),
+          (λ l. p.2 (subst (λ (n : ℕ). 1 < n) (lane_of_place slots key.lanes (sym count)) l)),
+          p.1,
+        ),
       )

@@ -14,9 +14,9 @@ module _ {K Z : Type 0} where
   top_or d (x ∷ xs) = x.1
 
   -- what the slot in front has, told twice
-  pub top_is : (lane : ℕ) (x y : Option (Arc K Z)) (c cs ds : List (ℕ × Option (Arc K Z))) → c ≡ (lane, x) ∷ cs
-      → c ≡ (lane, y) ∷ ds → x ≡ y
-  top_is lane x y c cs ds p q = ap (top_or x) (sym p ∙ q)
+  pub top_is : (slot : ℕ) (x y : Option (Arc K Z)) (c cs ds : List (ℕ × Option (Arc K Z))) → c ≡ (slot, x) ∷ cs
+      → c ≡ (slot, y) ∷ ds → x ≡ y
+  top_is slot x y c cs ds p q = ap (top_or x) (sym p ∙ q)
 
 pub in_front : {S : Type 0} (c cs : List (ℕ × S)) (x : ℕ × S) → c ≡ x ∷ cs → c ≡ x ∷ rest c
 in_front c cs x e = e ∙ ap (λ l. x ∷ rest l) (sym e)

@@ -1,7 +1,8 @@
 -- Each step keeps the rule.
-use Rattle.std.proofs.Common.{append-nil, ◌≡◌, ◌≢◌, ◌⊎◌, ℕ, zero, suc, ◌+◌, ◌-◌, ◌<◌, eqb, true, List, [], ◌∷◌, length}
-use Rattle.std.proofs.Common.{get_or, set, drop, sym, refl, ap, ◌∙◌, subst, inl, inr, ⊎_elim, arith, Option, Some, None}
+use Rattle.std.proofs.Common.{append-nil, ◌≡◌, ◌≢◌, ◌⊎◌, ℕ, zero, suc, ◌+◌, ◌-◌, ◌<◌, eqb, true, List, [], ◌∷◌}
+use Rattle.std.proofs.Common.{length, get_or, set, drop, sym, refl, ap, ◌∙◌, subst, inl, inr, ⊎_elim, arith, Option, Some, None}
 use Rattle.std.proofs.Common.{length-set, get_or-set_other, get_or-set_same, eq-eqb, ne_eqb}
+use Rattle.std.proofs.Math.Nat.{mul-div_cancel}
 use mathlib.Core.Logic.{dite}
 use mathlib.Core.Option.{none, some, some-injective, some-ne-none}
 use mathlib.Core.Option as maybe
@@ -11,14 +12,22 @@ use lib.Seq.{set-get_or}
 use prog.Atomic.{either}
 use Rattle.std.specs.Arc.{arc_value}
 use Rattle.std.specs.declared.sync.Arc.{Arc}
-use Rattle.atomic_table.specs.Table.{State, step, rest, Act, keeps, takes, gives, stepped, Allows, Valid, carried_after}
+use Rattle.atomic_table.specs.Table.{State, rest, Act, keeps, takes, gives, stepped, Allows, Valid, carried_after}
 use Rattle.atomic_table.proofs.Lists.{at_set, set_here, set_else}
 use Rattle.lane_lock.specs.declared.table.View.{View}
 use Rattle.lane_lock.specs.declared.table.Setup.{Setup}
 use Rattle.lane_lock.specs.History.{StartsWith, made_by, Legal}
-use Rattle.lane_lock.specs.Rule.{Names, Knows, Has, Ruled}
+use Rattle.lane_lock.specs.Rule.{Names, Knows, Has, Ruled, place, lane_at}
 use Rattle.lane_lock.specs.Steps.{Mine, Takes, took, IsShare}
 use Rattle.lane_lock.specs.Views.{holding, seeing, pin_or, freed, noted}
+
+-- lanes lie apart
+pub apart_there : (i k : ℕ) → i ≢ k → place i ≢ place k
+apart_there i k ne e = ne (omega arith)
+
+-- the lane of a lane's place is that lane
+pub lane_of_place : (i k : ℕ) → i ≡ place k → lane_at i ≡ k
+lane_of_place i k at = ap lane_at at ∙ mul-div_cancel k (let some : 0 < 8 = omega arith in some)
 
 pub names_one : (p q w : ℕ) → Names p w → Names q w → p ≡ q
 names_one p q w (inl a) (inl b) = omega arith
@@ -76,18 +85,19 @@ module _ {K E : Type 0} (Z : Type 0) (hist : K → List E) (by : E → ℕ) (key
   Known' s r words j v = Knows by key.lanes key.passes (hist key.value.value) r.seat r.history words j v
 
   -- what another seat knows stays so, where the word of lane k was 0 or named the pass p of another seat
-  others_stay : (s : St) (r : Rule s) (id p k x j : ℕ) (v : V) → r.seat p ≡ id → j ≢ id → (get_or s.words k 0 ≡ 0)
-      ⊎ Names p (get_or s.words k 0) → Known' s r s.words j v → Known' s r (set s.words k x) j v
+  others_stay : (s : St) (r : Rule s) (id p k x j : ℕ) (v : V) → r.seat p ≡ id → j ≢ id → (get_or s.words (place k) 0 ≡ 0)
+      ⊎ Names p (get_or s.words (place k) 0) → Known' s r s.words j v → Known' s r (set s.words (place k) x) j v
   others_stay s r id p k x j v here other own o = record {
     begins = o.begins;
     stands = o.stands;
     others = o.others;
     held = λ i n. let h = o.held i n in dite (ℕ_discrete i k)
-        (λ e. absurd (⊎_elim (λ (z : get_or s.words k 0 ≡ 0). n (sym h.0 ∙ (ap (λ (c : ℕ). get_or s.words c 0) e ∙ z)))
-        (λ (m : Names p (get_or s.words k 0)). other (sym (o.stands h.1).1
-        ∙ (ap r.seat (names_one v.number p (get_or s.words k 0)
-        (subst (Names v.number) (sym h.0 ∙ ap (λ (c : ℕ). get_or s.words c 0) e) h.2) m) ∙ here))) own))
-        (λ e. (get_or-set_other s.words k i x 0 e ∙ h.0, h.1, h.2));
+        (λ e. absurd (⊎_elim (λ (z : get_or s.words (place k) 0 ≡ 0). n (sym h.0
+        ∙ (ap (λ (c : ℕ). get_or s.words (place c) 0) e ∙ z)))
+        (λ (m : Names p (get_or s.words (place k) 0)). other (sym (o.stands h.1).1
+        ∙ (ap r.seat (names_one v.number p (get_or s.words (place k) 0)
+        (subst (Names v.number) (sym h.0 ∙ ap (λ (c : ℕ). get_or s.words (place c) 0) e) h.2) m) ∙ here))) own))
+        (λ e. (get_or-set_other s.words (place k) (place i) x 0 (apart_there i k e) ∙ h.0, h.1, h.2));
     pin = o.pin;
   }
 
@@ -95,16 +105,16 @@ module _ {K E : Type 0} (Z : Type 0) (hist : K → List E) (by : E → ℕ) (key
   lane_step : (s : St) (r : Rule s) (id k x pin : ℕ) (d : V) (seen : List E)
       (homes' : List (maybe.Option (Option (Arc K Z)))) → get_elem? s.views id ≡ some d → d.stands ≡ true
       → k < key.lanes
-      → (get_or s.words k 0 ≡ 0) ⊎ Names d.number (get_or s.words k 0) → (x ≢ 0 → Names d.number x)
+      → (get_or s.words (place k) 0 ≡ 0) ⊎ Names d.number (get_or s.words (place k) 0) → (x ≢ 0 → Names d.number x)
       → Legal by base r.history d.number seen d.made
       → (pin ≢ 0 → (r.history ≡ seen) × (get_or (set d.held k x) (pin - 1) 0 ≢ 0))
-      → length homes' ≡ length s.homes → ((j : ℕ) → j ≢ k → get_elem? homes' j ≡ get_elem? s.homes j)
-      → (x ≡ 0 → (y : Option (Arc K Z)) × (get_elem? homes' k ≡ some (some y)))
-      → (x ≢ 0 → get_elem? homes' k ≡ some none)
-      → ((a : Arc K Z) → get_elem? homes' k ≡ some (some (Some a)) → hist (arc_value a) ≡ r.history)
+      → length homes' ≡ length s.homes → ((j : ℕ) → j ≢ place k → get_elem? homes' j ≡ get_elem? s.homes j)
+      → (x ≡ 0 → (y : Option (Arc K Z)) × (get_elem? homes' (place k) ≡ some (some y)))
+      → (x ≢ 0 → get_elem? homes' (place k) ≡ some none)
+      → ((a : Arc K Z) → get_elem? homes' (place k) ≡ some (some (Some a)) → hist (arc_value a) ≡ r.history)
       → (k ≡ 0 → get_elem? homes' 0 ≢ some (some None))
       → Rule record {
-        words = set s.words k x;
+        words = set s.words (place k) x;
         homes = homes';
         views = set s.views id (record d { held = set d.held k x; seen = seen; pin = pin });
       }
@@ -113,30 +123,34 @@ module _ {K E : Type 0} (Z : Type 0) (hist : K → List E) (by : E → ℕ) (key
       let mine = r.each id d at in
       let std = mine.stands up in
       let wide = r.wide in
-      let within : k < length s.words = omega arith in
-      let same : get_or (set s.words k x) k 0 ≡ x = get_or-set_same s.words k x 0 within in
+      let within : place k < length s.words = omega arith in
+      let same : get_or (set s.words (place k) x) (place k) 0 ≡ x = get_or-set_same s.words (place k) x 0 within in
+      let there_now : (i : ℕ) → i ≡ k → get_or (set s.words (place k) x) (place i) 0 ≡ x =
+      λ i e. ap (λ (c : ℕ). get_or (set s.words (place k) x) (place c) 0) e ∙ same in
+      let as_was : (i : ℕ) → i ≢ k → get_or (set s.words (place k) x) (place i) 0 ≡ get_or s.words (place i) 0 =
+      λ i e. get_or-set_other s.words (place k) (place i) x 0 (apart_there i k e) in
+      let beside : (i : ℕ) → i ≢ k → get_elem? homes' (place i) ≡ get_elem? s.homes (place i) =
+      λ i e. apart (place i) (apart_there i k e) in
       let reach : k < length d.held = let l = std.3 in omega arith in
       let there : id < length s.views = at_inside s.views id d at in
       record {
         history = r.history;
         seat = r.seat;
-        wide = length-set s.words k x ∙ r.wide;
+        wide = length-set s.words (place k) x ∙ r.wide;
         deep = deep ∙ r.deep;
         few = r.few;
         opened = r.opened;
         home = λ i l z. dite (ℕ_discrete i k) (λ e. subst (λ (c : ℕ). (y : Option (Arc K Z))
-            × (get_elem? homes' c ≡ some (some y))) (sym e) (home (sym same
-            ∙ (ap (λ (c : ℕ). get_or (set s.words k x) c 0) (sym e) ∙ z))))
-            (λ e. let h = r.home i l (sym (get_or-set_other s.words k i x 0 e) ∙ z) in (h.0, apart i e ∙ h.1));
-        out = λ i z. dite (ℕ_discrete i k) (λ e. subst (λ (c : ℕ). get_elem? homes' c ≡ some none) (sym e)
-            (out (λ h. z (ap (λ (c : ℕ). get_or (set s.words k x) c 0) e ∙ (same ∙ h)))))
-            (λ e. apart i e ∙ r.out i (λ h. z (get_or-set_other s.words k i x 0 e ∙ h)));
-        shown = λ i a h. dite (ℕ_discrete i k) (λ e. shown a (ap (λ (c : ℕ). get_elem? homes' c) (sym e) ∙ h))
-            (λ e. r.shown i a (sym (apart i e) ∙ h));
-        filled = λ h. dite (ℕ_discrete 0 k) (λ e. filled (sym e) h) (λ e. r.filled (sym (apart 0 e) ∙ h));
+            × (get_elem? homes' (place c) ≡ some (some y))) (sym e) (home (sym (there_now i e) ∙ z)))
+            (λ e. let h = r.home i l (sym (as_was i e) ∙ z) in (h.0, beside i e ∙ h.1));
+        out = λ i z. dite (ℕ_discrete i k) (λ e. subst (λ (c : ℕ). get_elem? homes' (place c) ≡ some none) (sym e)
+            (out (λ h. z (there_now i e ∙ h))))
+            (λ e. beside i e ∙ r.out i (λ h. z (as_was i e ∙ h)));
+        shown = λ i a h. dite (ℕ_discrete i k) (λ e. shown a (ap (λ (c : ℕ). get_elem? homes' (place c)) (sym e) ∙ h))
+            (λ e. r.shown i a (sym (beside i e) ∙ h));
+        filled = λ h. dite (ℕ_discrete 0 k) (λ e. filled (sym e) h) (λ e. r.filled (sym (beside 0 e) ∙ h));
         named = λ i z. dite (ℕ_discrete i k)
-            (λ e. let now : get_or (set s.words k x) i 0 ≡ x = ap (λ (c : ℕ). get_or (set s.words k x) c 0) e
-            ∙ same in (
+            (λ e. let now = there_now i e in (
               d.number,
               std.0,
               subst (Names d.number) (sym now) (names (λ h. z (now ∙ h))),
@@ -149,15 +163,14 @@ module _ {K E : Type 0} (Z : Type 0) (hist : K → List E) (by : E → ℕ) (key
                     ∙ (get_or-set_same d.held k x 0 reach ∙ sym now),
               ),
             ))
-            (λ e. let now : get_or (set s.words k x) i 0 ≡ get_or s.words i 0 = get_or-set_other s.words k i x 0 e in
-            let o = r.named i (λ h. z (now ∙ h)) in (
+            (λ e. let now = as_was i e in let o = r.named i (λ h. z (now ∙ h)) in (
               o.0,
               o.1,
               subst (Names o.0) (sym now) o.2,
               has s r id k x i o.0 d w refl refl refl at e (subst (Has s.views (r.seat o.0) o.0 i) (sym now) o.3),
             ));
         each = λ j v e. ⊎_elim
-            (λ (t : (j ≡ id) × (w ≡ v)). subst (λ (c : ℕ × V). Known' s r (set s.words k x) c.0 c.1)
+            (λ (t : (j ≡ id) × (w ≡ v)). subst (λ (c : ℕ × V). Known' s r (set s.words (place k) x) c.0 c.1)
             (λ q. (sym t.0 q, t.1 q)) record {
               begins = fits.begins;
               stands = λ _. (std.0, std.1, std.2, length-set d.held k x ∙ std.3, fits);
@@ -165,12 +178,12 @@ module _ {K E : Type 0} (Z : Type 0) (hist : K → List E) (by : E → ℕ) (key
               held = λ i n. dite (ℕ_discrete i k)
                   (λ e. let now : get_or (set d.held k x) i 0 ≡ x = ap (λ (c : ℕ). get_or (set d.held k x) c 0) e
                   ∙ get_or-set_same d.held k x 0 reach in (
-                    ap (λ (c : ℕ). get_or (set s.words k x) c 0) e ∙ (same ∙ sym now),
+                    there_now i e ∙ sym now,
                     up,
                     subst (Names d.number) (sym now) (names (λ h. n (now ∙ h))),
                   ))
                   (λ e. let now = get_or-set_other d.held k i x 0 e in let h = mine.held i (λ z. n (now ∙ z)) in (
-                    get_or-set_other s.words k i x 0 e ∙ (h.0 ∙ sym now),
+                    as_was i e ∙ (h.0 ∙ sym now),
                     up,
                     subst (Names d.number) (sym now) h.2,
                   ));
@@ -183,8 +196,8 @@ module _ {K E : Type 0} (Z : Type 0) (hist : K → List E) (by : E → ℕ) (key
     where
       has : (s : St) (r : Rule s) (id k x i q : ℕ) (d w : V) → w.held ≡ set d.held k x → w.stands ≡ d.stands
           → w.number ≡ d.number → get_elem? s.views id ≡ some d → i ≢ k
-          → Has s.views (r.seat q) q i (get_or (set s.words k x) i 0)
-          → Has (set s.views id w) (r.seat q) q i (get_or (set s.words k x) i 0)
+          → Has s.views (r.seat q) q i (get_or (set s.words (place k) x) (place i) 0)
+          → Has (set s.views id w) (r.seat q) q i (get_or (set s.words (place k) x) (place i) 0)
       has s r id k x i q d w helds up num at e h = dite (ℕ_discrete (r.seat q) id)
           (λ z. let v = h.0 in let one : v ≡ d = some-injective v d (sym h.1 ∙ (ap (get_elem? s.views) z ∙ at)) in (
             w,
@@ -200,7 +213,7 @@ module _ {K E : Type 0} (Z : Type 0) (hist : K → List E) (by : E → ℕ) (key
   -- a step that changes no word, after which the pass has noted a lane
   unmoved : (s : St) (r : Rule s) (id k busy lane word : ℕ) (d : V) → get_elem? s.views id ≡ some d
       → Rule record {
-        words = set s.words k (get_or s.words k 0);
+        words = set s.words (place k) (get_or s.words (place k) 0);
         homes = s.homes;
         views = set s.views id (record d { busy = busy; lane = lane; word = word });
       }
@@ -209,7 +222,7 @@ module _ {K E : Type 0} (Z : Type 0) (hist : K → List E) (by : E → ℕ) (key
       let there : id < length s.views = at_inside s.views id d at in
       let mine = r.each id d at in
       subst (λ (ws : List ℕ). Rule record { words = ws; homes = s.homes; views = set s.views id w })
-      (sym (set-get_or s.words k 0)) record {
+      (sym (set-get_or s.words (place k) 0)) record {
         history = r.history;
         seat = r.seat;
         wide = r.wide;
@@ -220,7 +233,7 @@ module _ {K E : Type 0} (Z : Type 0) (hist : K → List E) (by : E → ℕ) (key
         out = r.out;
         shown = r.shown;
         filled = r.filled;
-        named = λ i z. let o = r.named i z in (o.0, o.1, o.2, has o.0 i (get_or s.words i 0) there o.3);
+        named = λ i z. let o = r.named i z in (o.0, o.1, o.2, has o.0 i (get_or s.words (place i) 0) there o.3);
         each = λ j v e. ⊎_elim
             (λ (t : (j ≡ id) × (w ≡ v)). subst (λ (c : ℕ × V). Known' s r s.words c.0 c.1)
             (λ q. (sym t.0 q, t.1 q)) record {
@@ -250,23 +263,23 @@ module _ {K E : Type 0} (Z : Type 0) (hist : K → List E) (by : E → ℕ) (key
 
   takes_it : (s : St) (r : Rule s) (id k w : ℕ) (me : Mine K E Z) (x : Option (Arc K Z))
       → get_elem? s.views id ≡ some me.0 → me.0.stands ≡ true → Names me.0.number w → k < key.lanes
-      → get_or s.words k 0 ≡ 0 → get_elem? s.homes k ≡ some (some x)
-      → (v : V) × (a : Act (Option (Arc K Z))) × Valid s.homes me.1 a × Rule (stepped s k w id me.1 v a)
-      × ((y : Option (Arc K Z)) × (carried_after me.1 a ≡ (k, y) ∷ me.1) × Takes hist by me.0 k w y v
+      → get_or s.words (place k) 0 ≡ 0 → get_elem? s.homes (place k) ≡ some (some x)
+      → (v : V) × (a : Act (Option (Arc K Z))) × Valid s.homes me.1 a × Rule (stepped s (place k) w id me.1 v a)
+      × ((y : Option (Arc K Z)) × (carried_after me.1 a ≡ (place k, y) ∷ me.1) × Takes hist by me.0 k w y v
       × (get_or me.0.held k 0 ≡ 0))
   takes_it s r id k w me None at up names small free here = let d : V = me.0 in let mine =
       r.each id d at in let std = mine.stands up in let deep = r.deep in let some_word = names_some d.number w names in
       let blank : get_or d.held k 0 ≡ 0 =
       dite (ℕ_discrete (get_or d.held k 0) 0) (λ z. z) (λ n. absurd (n (sym (mine.held k n).0 ∙ free))) in
-      let zeroth : k ≢ 0 = λ z. r.filled (ap (get_elem? s.homes) (sym z) ∙ here) in (
+      let zeroth : k ≢ 0 = λ z. r.filled (ap (λ (i : ℕ). get_elem? s.homes (place i)) (sym z) ∙ here) in (
         holding d k w,
-        takes k None,
+        takes (place k) None,
         here,
-        lane_step s r id k w d.pin d d.seen (set s.homes k none) at up small (inl free) (λ _. names) std.4
+        lane_step s r id k w d.pin d d.seen (set s.homes (place k) none) at up small (inl free) (λ _. names) std.4
             (λ n. let p = mine.pin n in (p.0, still_held d.held k w (d.pin - 1) some_word p.1))
-            (length-set s.homes k none) (λ j e. set_else s.homes k j none e) (λ z. absurd (some_word z))
-            (λ _. set_here s.homes k none (omega arith))
-            (λ a e. absurd (gone s.homes k (Some a) (omega arith) e)) (λ z. absurd (zeroth z)),
+            (length-set s.homes (place k) none) (λ j e. set_else s.homes (place k) j none e)
+            (λ z. absurd (some_word z)) (λ _. set_here s.homes (place k) none (omega arith))
+            (λ a e. absurd (gone s.homes (place k) (Some a) (omega arith) e)) (λ z. absurd (zeroth z)),
         (None, refl, (refl, zeroth), blank),
       )
   takes_it s r id k w me (Some b) at up names small free here = let d : V = me.0 in let mine =
@@ -279,9 +292,9 @@ module _ {K E : Type 0} (Z : Type 0) (hist : K → List E) (by : E → ℕ) (key
       let legal : made_by by d.number (drop base (hist (arc_value b))) ≡ d.made =
       ap (λ h. made_by by d.number (drop base h)) now ∙ makes in (
         seeing d k w (hist (arc_value b)),
-        takes k (Some b),
+        takes (place k) (Some b),
         here,
-        lane_step s r id k w (pin_or d.pin (k + 1)) d (hist (arc_value b)) (set s.homes k none) at up
+        lane_step s r id k w (pin_or d.pin (k + 1)) d (hist (arc_value b)) (set s.homes (place k) none) at up
             small (inl free) (λ _. names)
             record { begins = ([], sym now ∙ sym (append-nil (hist (arc_value b)))); makes = makes; inside = legal }
             (λ n. (
@@ -290,10 +303,11 @@ module _ {K E : Type 0} (Z : Type 0) (hist : K → List E) (by : E → ℕ) (key
                   (λ z. some_word (sym held_now ∙ (ap (λ (i : ℕ). get_or (set d.held k w) i 0)
                   (let e : k ≡ (k + 1) - 1 = omega arith in e) ∙ z))) d.pin (λ q. (mine.pin q).1),
             ))
-            (length-set s.homes k none) (λ j e. set_else s.homes k j none e) (λ z. absurd (some_word z))
-            (λ _. set_here s.homes k none (omega arith))
-            (λ a e. absurd (gone s.homes k (Some a) (omega arith) e))
-            (λ z e. absurd (gone s.homes k None (omega arith) (ap (get_elem? (set s.homes k none)) z ∙ e))),
+            (length-set s.homes (place k) none) (λ j e. set_else s.homes (place k) j none e)
+            (λ z. absurd (some_word z)) (λ _. set_here s.homes (place k) none (omega arith))
+            (λ a e. absurd (gone s.homes (place k) (Some a) (omega arith) e))
+            (λ z e. absurd (gone s.homes (place k) None (omega arith)
+            (ap (λ (i : ℕ). get_elem? (set s.homes (place k) none) (place i)) z ∙ e))),
         (
           Some b,
           refl,
@@ -310,22 +324,21 @@ module _ {K E : Type 0} (Z : Type 0) (hist : K → List E) (by : E → ℕ) (key
         ),
       )
 
-  -- steps 1 and 3
-  pub can_take : (slots id : ℕ) (me : Mine K E Z) (k w : ℕ) → me.0.stands ≡ true → Names me.0.number w → k < key.lanes
-      → Allows Rule slots id me k (λ n. either (eqb n 0) w n) (took hist by (step slots k 0 w none) me)
-  can_take slots id me k w up names small s r _ at _ = let n : ℕ = get_or s.words k 0 in dite (ℕ_discrete n 0)
+  takes_lane : (slots id : ℕ) (me : Mine K E Z) (k w : ℕ) → me.0.stands ≡ true → Names me.0.number w → k < key.lanes
+      → Allows Rule slots id me (place k) (λ n. either (eqb n 0) w n) (took hist by k w me)
+  takes_lane slots id me k w up names small s r _ at _ = let n : ℕ = get_or s.words (place k) 0 in dite (ℕ_discrete n 0)
       (λ z. let h = r.home k small z in let t = takes_it s r id k w me h.0 at up names small z h.1 in (
         t.0,
         t.1,
         t.2,
-        subst (λ b. Rule (stepped s k (either b w n) id me.1 t.0 t.1)) (sym (eq-eqb n 0 z)) t.3,
+        subst (λ b. Rule (stepped s (place k) (either b w n) id me.1 t.0 t.1)) (sym (eq-eqb n 0 z)) t.3,
         ((λ _. t.4), λ no. absurd (no z)),
       ))
       (λ no. let o = r.named k no in let few = r.few in (
         noted me.0 k n,
         keeps,
         tt,
-        subst (λ b. Rule (stepped s k (either b w n) id me.1 (noted me.0 k n) keeps)) (sym (ne_eqb n 0 no))
+        subst (λ b. Rule (stepped s (place k) (either b w n) id me.1 (noted me.0 k n) keeps)) (sym (ne_eqb n 0 no))
             (unmoved s r id k (me.0.busy + 1) k n me.0 at),
         (
           (λ z. absurd (no z)),
@@ -344,29 +357,39 @@ module _ {K E : Type 0} (Z : Type 0) (hist : K → List E) (by : E → ℕ) (key
         ),
       ))
 
+  -- steps 1 and 3
+  pub can_take : (slots id : ℕ) (me : Mine K E Z) (i k w : ℕ) → i ≡ place k → me.0.stands ≡ true
+      → Names me.0.number w → k < key.lanes
+      → Allows Rule slots id me i (λ n. either (eqb n 0) w n) (took hist by (lane_at i) w me)
+  can_take slots id me i k w at up names small = subst
+      (λ (z : ℕ × ℕ). Allows Rule slots id me z.0 (λ n. either (eqb n 0) w n) (took hist by z.1 w me))
+      (λ j. (sym at j, sym (lane_of_place i k at) j)) (takes_lane slots id me k w up names small)
+
   frees_it : (s : St) (r : Rule s) (id k pin : ℕ) (d : V) (x : Option (Arc K Z)) → get_elem? s.views id ≡ some d
       → d.stands ≡ true → get_or d.held k 0 ≢ 0 → IsShare hist d k x
       → (pin ≢ 0 → (pin ≡ d.pin) × (pin - 1 ≢ k))
       → Rule record {
-        words = set s.words k 0;
-        homes = set s.homes k (some x);
+        words = set s.words (place k) 0;
+        homes = set s.homes (place k) (some x);
         views = set s.views id (freed d k pin);
       }
   frees_it s r id k pin d x at up holds share pinned =
       let mine = r.each id d at in let std = mine.stands up in let deep = r.deep in let long = std.3 in
       let mark = mine.held k holds in let small : k < key.lanes = (let i = inside d.held k holds in omega arith) in
-      let back = set_here s.homes k (some x) (omega arith) in
-      lane_step s r id k 0 pin d d.seen (set s.homes k (some x)) at up small
+      let back = set_here s.homes (place k) (some x) (omega arith) in
+      lane_step s r id k 0 pin d d.seen (set s.homes (place k) (some x)) at up small
       (inr (subst (Names d.number) (sym mark.0) mark.2)) (λ z. absurd (z refl)) std.4
       (λ n. let p = pinned n in let q = mine.pin (λ z. n (p.0 ∙ z)) in (
         q.0,
         λ z. q.1 (ap (λ (i : ℕ). get_or d.held (i - 1) 0) (sym p.0)
             ∙ (sym (get_or-set_other d.held k (pin - 1) 0 0 p.1) ∙ z)),
       ))
-      (length-set s.homes k (some x)) (λ j e. set_else s.homes k j (some x) e) (λ _. (x, back)) (λ z. absurd (z refl))
+      (length-set s.homes (place k) (some x)) (λ j e. set_else s.homes (place k) j (some x) e) (λ _. (x, back))
+      (λ z. absurd (z refl))
       (λ a e. shows x a share (some-injective x (Some a) (some-injective (some x) (some (Some a)) (sym back ∙ e))))
       (λ z e. fills x share z (some-injective x None
-      (some-injective (some x) (some None) (sym back ∙ (ap (get_elem? (set s.homes k (some x))) z ∙ e)))))
+      (some-injective (some x) (some None) (sym back
+      ∙ (ap (λ (i : ℕ). get_elem? (set s.homes (place k) (some x)) (place i)) z ∙ e)))))
     where
       shows : (x : Option (Arc K Z)) (a : Arc K Z) → IsShare hist d k x → x ≡ Some a → hist (arc_value a) ≡ r.history
       shows None a share e = cc
@@ -378,15 +401,15 @@ module _ {K E : Type 0} (Z : Type 0) (hist : K → List E) (by : E → ℕ) (key
       fills (Some b) share z e = cc
 
   -- steps 2, 5 and 6
-  pub can_free : (slots id : ℕ) (me : Mine K E Z) (k pin : ℕ) (x : Option (Arc K Z)) → me.1 ≡ (k, x) ∷ rest me.1
-      → me.0.stands ≡ true → get_or me.0.held k 0 ≢ 0 → IsShare hist me.0 k x
+  pub can_free : (slots id : ℕ) (me : Mine K E Z) (i k pin : ℕ) (x : Option (Arc K Z)) → i ≡ place k
+      → me.1 ≡ (place k, x) ∷ rest me.1 → me.0.stands ≡ true → get_or me.0.held k 0 ≢ 0 → IsShare hist me.0 k x
       → (pin ≢ 0 → (pin ≡ me.0.pin) × (pin - 1 ≢ k))
-      → Allows Rule slots id me k (λ _. 0) (λ _ m'. m' ≡ (freed me.0 k pin, rest me.1))
-  can_free slots id me k pin x hand up holds share pinned s r _ at _ = (
+      → Allows Rule slots id me i (λ _. 0) (λ _ m'. m' ≡ (freed me.0 (lane_at i) pin, rest me.1))
+  can_free slots id me i k pin x there hand up holds share pinned s r _ at _ = (
     freed me.0 k pin,
     gives,
     tt,
-    subst (λ (c : List (ℕ × Option (Arc K Z))). Rule (stepped s k 0 id c (freed me.0 k pin) gives)) (sym hand)
-        (frees_it s r id k pin me.0 x at up holds share pinned),
-    refl,
+    subst (λ (c : ℕ × List (ℕ × Option (Arc K Z))). Rule (stepped s c.0 0 id c.1 (freed me.0 k pin) gives))
+        (λ j. (sym there j, sym hand j)) (frees_it s r id k pin me.0 x at up holds share pinned),
+    ap (λ (l : ℕ). (freed me.0 l pin, rest me.1)) (sym (lane_of_place i k there)),
   )

@@ -14,7 +14,7 @@ use Rattle.lane_lock.specs.declared.table.View.{View}
 use Rattle.lane_lock.specs.declared.table.Known.{Known}
 use Rattle.lane_lock.specs.declared.table.Setup.{Setup}
 use Rattle.lane_lock.specs.History.{StartsWith, made_by, Legal, longer}
-use Rattle.lane_lock.specs.Rule.{Knows, Has, Ruled}
+use Rattle.lane_lock.specs.Rule.{Knows, Has, Ruled, place}
 use Rattle.lane_lock.specs.Views.{tail, alone, note_of, note, without_one, first_alone, learned, gathered, HasApart}
 use Rattle.lane_lock.specs.Views.{IsBlank}
 use Rattle.lane_lock.proofs.Keeps.{at_inside}
@@ -181,8 +181,8 @@ module _ {K E : Type 0} (Z : Type 0) (hist : K → List E) (by : E → ℕ) (key
               p.1,
               p.2,
               subst (λ (j : ℕ). Has (set s.views id (without_one v) ++ first_alone v ∷ []) j p.0 k
-                  (get_or s.words k 0)) (sym (alike p.0 other)) (moved s r id v (first_alone v) at (r.seat p.0)
-                  p.0 k (get_or s.words k 0) h),
+                  (get_or s.words (place k) 0)) (sym (alike p.0 other)) (moved s r id v (first_alone v) at (r.seat p.0)
+                  p.0 k (get_or s.words (place k) 0) h),
             );
         each = λ j w e. ⊎_elim
             (λ (h : get_elem? (set s.views id (without_one v)) j ≡ some w). ⊎_elim
@@ -295,7 +295,7 @@ module _ {K E : Type 0} (Z : Type 0) (hist : K → List E) (by : E → ℕ) (key
           o.0,
           o.1,
           o.2,
-          has (r.seat o.0) o.0 k (get_or s.words k 0) both refl refl refl inside theirs o.3,
+          has (r.seat o.0) o.0 k (get_or s.words (place k) 0) both refl refl refl inside theirs o.3,
         );
         each = λ j w e. ⊎_elim
             (λ (t : (j ≡ other) × (note_of [] ≡ w)). subst
@@ -391,8 +391,8 @@ module _ {K E : Type 0} (Z : Type 0) (hist : K → List E) (by : E → ℕ) (key
               o.1,
               o.2,
               subst (λ (c : ℕ). Has (set (set s.views id both) other (note_of [])) c o.0 k
-                  (get_or s.words k 0)) (sym (alike o.0 differs)) (has s r at (r.seat o.0) o.0 k
-                  (get_or s.words k 0) inside there_no h),
+                  (get_or s.words (place k) 0)) (sym (alike o.0 differs)) (has s r at (r.seat o.0) o.0 k
+                  (get_or s.words (place k) 0) inside there_no h),
             );
         each = λ j x e. ⊎_elim
             (λ (t : (j ≡ other) × (note_of [] ≡ x)). subst (λ (u : V). K' j u) t.1 record {

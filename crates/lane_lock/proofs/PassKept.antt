@@ -18,6 +18,7 @@ use Rattle.lane_lock.specs.Guards.{HasAllLanes}
 use Rattle.lane_lock.specs.Hands.{AllBack, Climbed, Lowered}
 use Rattle.lane_lock.specs.Outcomes.{OnlySees, KeepsHistory, KeepsLanes, RefusesWrite, Stops}
 use Rattle.lane_lock.specs.Passes.{Owns}
+use Rattle.lane_lock.specs.Rule.{place}
 use Rattle.lane_lock.specs.Steps.{Mine}
 use Rattle.lane_lock.specs.Views.{freed, noted}
 use Rattle.lane_lock.proofs.Guards.{idle_if_free}
@@ -49,13 +50,20 @@ module _ {K E : Type 0} where
   -- what a pass with this seat keeps, where it has this number, lane, count and share
   pub record Keeping (t : TableId) (m : Mine K E Global) (number lane seen : ℕ) (shared : Bool) : Type 0 where
     pub stands : (m.0.stands ≡ true) × (m.0.number ≡ number) × (m.0.others ≡ [])
-    pub sized : (lane < t.words) × (t.slots ≡ t.words) × (length m.0.held ≡ t.words)
+    pub sized : (lane < length m.0.held) × (t.slots ≡ t.words) × (place (length m.0.held) ≡ t.words)
     pub has_seen : seen ≡ length m.0.seen
     pub idle : shared ≡ false → (m.1 ≡ []) × ((k : ℕ) → get_or m.0.held k 0 ≡ 0)
     pub pinned : m.0.pin ≢ 0 → get_or m.0.held (m.0.pin - 1) 0 ≢ 0
     pub guarded : shared ≡ true → get_or m.0.held lane 0 ≢ 0
 
 module _ {K A S E : Type 0} {g : kept.Ghosts K A S E} where
+  -- the view has as many lanes as before
+  pub held_sized : (p : Pass K A S E g) (m : Mine K E Global) (t : TableId) → t ≡ p.seat.table_id
+      → length m.0.held ≡ length p.seat.me.0.held
+      → (p.lane < length m.0.held) × (t.slots ≡ t.words) × (place (length m.0.held) ≡ t.words)
+  held_sized p m t same long = subst (λ (z : TableId × ℕ). (p.lane < z.1) × (z.0.slots ≡ z.0.words)
+      × (place z.1 ≡ z.0.words)) (λ i. (sym same i, sym long i)) p.sized
+
   -- another take was refused
   pub noted_pass : (p : Pass K A S E g) (t : TableId) (m : Mine K E Global) (k w : ℕ) → t ≡ p.seat.table_id
       → m ≡ (noted p.seat.me.0 k w, p.seat.me.1) → Keeping t m p.number p.lane p.seen (is_some p.share)
@@ -73,20 +81,23 @@ module _ {K A S E : Type 0} {g : kept.Ghosts K A S E} where
 module _ {K A S E : Type 0} {g : kept.Ghosts K A S E} (lock : LaneLock K A S E) (p : Pass K A S E g)
     (own : Owns lock p) where
   pub some_words : 0 < lock.table.shared.table_id.words
-  some_words = subst (λ (n : ℕ). 0 < n) lock.sized.0 lock.few.0
+  some_words = let some = lock.few.0 in let words = lock.sized.0 in omega (arith, some, words)
 
-  pub lane_there : (l : ℕ) → l ≡ p.lane → l < lock.table.shared.table_id.words
-  lane_there l e = subst (λ (k : ℕ). k < lock.table.shared.table_id.words) (sym e)
-      (subst (λ (t : TableId). p.lane < t.words) own.table p.sized.0)
+  pub key_words : place lock.table.shared.key.lanes ≡ lock.table.shared.table_id.words
+  key_words = ap place lock.sized.2 ∙ lock.sized.0
 
   pub all_held : length p.seat.me.0.held ≡ lock.lanes
-  all_held = p.sized.2 ∙ (ap (λ (t : TableId). t.words) own.table ∙ sym lock.sized.0)
+  all_held = let all : place (length p.seat.me.0.held) ≡ place lock.lanes =
+      p.sized.2 ∙ (ap (λ (t : TableId). t.words) own.table ∙ sym lock.sized.0) in omega (arith, all)
 
   pub some_held : 0 < length p.seat.me.0.held
   some_held = subst (λ (n : ℕ). 0 < n) (sym all_held) lock.few.0
 
   pub lane_within : p.lane < lock.lanes
-  lane_within = subst (λ (n : ℕ). p.lane < n) (ap (λ (t : TableId). t.words) own.table ∙ sym lock.sized.0) p.sized.0
+  lane_within = subst (λ (n : ℕ). p.lane < n) all_held p.sized.0
+
+  pub lane_there : place p.lane < lock.table.shared.table_id.words
+  lane_there = let within = lane_within in let words = lock.sized.0 in omega (arith, within, words)
 
   pub dropped_pass : (share : Option (Arc K Global)) (m : Mine K E Global)
       → HasAllLanes g.history g.maker lock.lanes p.seat.me share → m.0 ≡ p.seat.me.0
@@ -117,13 +128,8 @@ module _ {K A S E : Type 0} {g : kept.Ghosts K A S E} (lock : LaneLock K A S E) 
               ap (λ (v : View E). v.number) c.view ∙ (ap (λ (u : Mine K E Global). u.0.number) f.is ∙ p.stands.1),
               ap (λ (v : View E). v.others) c.view ∙ (ap (λ (u : Mine K E Global). u.0.others) f.is ∙ p.stands.2),
             );
-            sized = subst (λ (z : TableId). (p.lane < z.words) × (z.slots ≡ z.words) × (length m''.0.held ≡ z.words))
-                (sym same) (
-                  p.sized.0,
-                  p.sized.1,
-                  c.long ∙ (ap (λ (u : Mine K E Global). length u.0.held) f.is
-                      ∙ (length-set p.seat.me.0.held 0 w ∙ p.sized.2)),
-                );
+            sized = held_sized p m'' t same (c.long ∙ (ap (λ (u : Mine K E Global). length u.0.held) f.is
+                ∙ length-set p.seat.me.0.held 0 w));
             has_seen = count
                 ∙ ap length (sym (ap (λ (v : View E). v.seen) c.view ∙ ap (λ (u : Mine K E Global). u.0.seen) f.is));
             idle = λ e. absurd (false≢true (sym e));
@@ -150,8 +156,7 @@ module _ {K A S E : Type 0} {g : kept.Ghosts K A S E} (lock : LaneLock K A S E) 
           let long = stopped_long g.history g.maker p.seat.me m' w a f m3 b s l4 P low l5 view in
           record {
             stands = (as_was.0 ∙ p.stands.0, as_was.1 ∙ p.stands.1, as_was.3 ∙ p.stands.2);
-            sized = subst (λ (z : TableId). (p.lane < z.words) × (z.slots ≡ z.words) × (length l5.0.held ≡ z.words))
-                (sym same) (p.sized.0, p.sized.1, long ∙ p.sized.2);
+            sized = held_sized p l5 t same long;
             has_seen = count ∙ ap length (sym as_was.5);
             idle = λ e. (hand ∙ (p.idle e).0, λ k. lanes k ∙ (p.idle e).1 k);
             pinned = λ n. absurd (n as_was.6);
@@ -177,8 +182,7 @@ module _ {K A S E : Type 0} {g : kept.Ghosts K A S E} (p : Pass K A S E g) (m m'
       ap (λ (v : View E). v.number) back.view ∙ (ap (λ (v : View E). v.number) was ∙ p.stands.1),
       ap (λ (v : View E). v.others) back.view ∙ (ap (λ (v : View E). v.others) was ∙ p.stands.2),
     );
-    sized = subst (λ (z : TableId). (p.lane < z.words) × (z.slots ≡ z.words) × (length m'.0.held ≡ z.words)) (sym same)
-        (p.sized.0, p.sized.1, back.long ∙ (ap (λ (v : View E). length v.held) was ∙ p.sized.2));
+    sized = held_sized p m' t same (back.long ∙ ap (λ (v : View E). length v.held) was);
     has_seen = count ∙ ap length (sym (ap (λ (v : View E). v.seen) back.view));
     idle = λ e. (back.hand, back.blank);
     pinned = λ n. absurd (n back.unpinned);

@@ -17,10 +17,11 @@ use Rattle.lane_lock.specs.declared.table.View.{View}
 use Rattle.lane_lock.specs.Guards.{HasOneLane}
 use Rattle.lane_lock.specs.History.{StartsWith}
 use Rattle.lane_lock.specs.Outcomes.{KeepsHistory, KeepsLanes, OnlySees}
+use Rattle.lane_lock.specs.Rule.{place}
 use Rattle.lane_lock.specs.Steps.{Mine, Offers, Takes}
 use Rattle.lane_lock.specs.Views.{IsLegal, freed, holding, pin_or, seeing}
 use Rattle.lane_lock.proofs.Guards.{idle_if_free, in_front, top_is}
-use Rattle.lane_lock.proofs.PassKept.{Keeping}
+use Rattle.lane_lock.proofs.PassKept.{Keeping, held_sized}
 use Rattle.lane_lock.proofs.Writes.{no_pin, zero_there}
 
 -- the word of a reader
@@ -29,7 +30,7 @@ odd_some n z = omega arith
 
 -- the pass takes its lane by the word w
 module _ {K A S E : Type 0} {g : kept.Ghosts K A S E} (p : Pass K A S E g) (l w : ℕ) (own : l ≡ p.lane) (word : w ≢ 0)
-    (x : Option (Arc K Global)) (m1 m2 : Mine K E Global) (hand : m1.1 ≡ (l, x) ∷ p.seat.me.1)
+    (x : Option (Arc K Global)) (m1 m2 : Mine K E Global) (hand : m1.1 ≡ (place l, x) ∷ p.seat.me.1)
     (takes : Takes g.history g.maker p.seat.me.0 l w x m1.0) (free : get_or p.seat.me.0.held l 0 ≡ 0) where
   abbrev v : View E
   v = p.seat.me.0
@@ -41,19 +42,19 @@ module _ {K A S E : Type 0} {g : kept.Ghosts K A S E} (p : Pass K A S E g) (l w 
   unpinned = no_pin _ _ p.pinned (p.idle not_shared).1
 
   within : l < length v.held
-  within = subst (λ (n : ℕ). l < n) (sym p.sized.2) (subst (λ (k : ℕ). k < p.seat.table_id.words) (sym own) p.sized.0)
+  within = subst (λ (k : ℕ). k < length v.held) (sym own) p.sized.0
 
   here : get_or (set v.held l w) l 0 ≢ 0
   here z = word (sym (get_or-set_same v.held l w 0 within) ∙ z)
 
   -- whose slot was empty
-  module _ (top : m1.1 ≡ (l, None) ∷ rest m1.1) (now : m2 ≡ (m1.0, (l, None) ∷ rest m1.1)) where
+  module _ (top : m1.1 ≡ (place l, None) ∷ rest m1.1) (now : m2 ≡ (m1.0, (place l, None) ∷ rest m1.1)) where
     empty : (m1.0 ≡ holding v l w) × (l ≢ 0)
     empty = subst (λ (y : Option (Arc K Global)). Takes g.history g.maker v l w y m1.0)
-        (top_is l x None m1.1 p.seat.me.1 (rest m1.1) hand top) takes
+        (top_is (place l) x None m1.1 p.seat.me.1 (rest m1.1) hand top) takes
 
-    is : m2 ≡ (holding v l w, (l, None) ∷ p.seat.me.1)
-    is = now ∙ (λ i. (empty.0 i, (l, None) ∷ ap rest hand i))
+    is : m2 ≡ (holding v l w, (place l, None) ∷ p.seat.me.1)
+    is = now ∙ (λ i. (empty.0 i, (place l, None) ∷ ap rest hand i))
 
     pub empty_pass : (m2.0.stands ≡ true) × (get_or m2.0.held l 0 ≢ 0)
     empty_pass = (
@@ -85,13 +86,8 @@ module _ {K A S E : Type 0} {g : kept.Ghosts K A S E} (p : Pass K A S E g) (l w 
           ap (λ (u : Mine K E Global). u.0.number) was ∙ p.stands.1,
           ap (λ (u : Mine K E Global). u.0.others) was ∙ p.stands.2,
         );
-        sized = subst (λ (z : TableId). (p.lane < z.words) × (z.slots ≡ z.words) × (length m3.0.held ≡ z.words))
-            (sym same) (
-              p.sized.0,
-              p.sized.1,
-              ap (λ (u : Mine K E Global). length u.0.held) was
-                  ∙ (length-set (set v.held l w) l 0 ∙ (length-set v.held l w ∙ p.sized.2)),
-            );
+        sized = held_sized p m3 t same (ap (λ (u : Mine K E Global). length u.0.held) was
+            ∙ (length-set (set v.held l w) l 0 ∙ length-set v.held l w));
         has_seen = p.has_seen ∙ ap (λ (u : Mine K E Global). length u.0.seen) (sym was);
         idle = λ e. (ap (λ (u : Mine K E Global). u.1) was ∙ (p.idle e).0, λ k. lanes k ∙ (p.idle e).1 k);
         pinned = λ n. absurd (n (ap (λ (u : Mine K E Global). u.0.pin) was));
@@ -111,16 +107,17 @@ module _ {K A S E : Type 0} {g : kept.Ghosts K A S E} (p : Pass K A S E g) (l w 
       empty_refuses = (history, lanes, ap (λ (u : Mine K E Global). u.0.busy) was)
 
   -- whose slot had a share
-  module _ (a : Arc K Global) (top : m1.1 ≡ (l, Some a) ∷ rest m1.1) (now : m2 ≡ (m1.0, (l, None) ∷ rest m1.1)) where
+  module _ (a : Arc K Global) (top : m1.1 ≡ (place l, Some a) ∷ rest m1.1)
+      (now : m2 ≡ (m1.0, (place l, None) ∷ rest m1.1)) where
     abbrev seen : List E
     seen = g.history (arc_value a)
 
     full : Takes g.history g.maker v l w (Some a) m1.0
     full = subst (λ (y : Option (Arc K Global)). Takes g.history g.maker v l w y m1.0)
-        (top_is l x (Some a) m1.1 p.seat.me.1 (rest m1.1) hand top) takes
+        (top_is (place l) x (Some a) m1.1 p.seat.me.1 (rest m1.1) hand top) takes
 
-    shows : m2 ≡ (seeing v l w seen, (l, None) ∷ p.seat.me.1)
-    shows = now ∙ (λ i. (full.0 i, (l, None) ∷ ap rest hand i))
+    shows : m2 ≡ (seeing v l w seen, (place l, None) ∷ p.seat.me.1)
+    shows = now ∙ (λ i. (full.0 i, (place l, None) ∷ ap rest hand i))
 
     shown : m2.0.seen ≡ seen
     shown = ap (λ (u : Mine K E Global). u.0.seen) shows
@@ -147,7 +144,7 @@ module _ {K A S E : Type 0} {g : kept.Ghosts K A S E} (p : Pass K A S E g) (l w 
       opened = subst (λ (z : List E × List E). StartsWith z.0 z.1)
           (λ i. (sym shown i, sym (ap (λ (u : Mine K E Global). u.0.opening) shows) i)) full.4;
       legal = subst (IsLegal g.maker) (sym (ap (λ (u : Mine K E Global). u.0) now)) full.2;
-      hand = ap (λ (u : Mine K E Global). u.1) shows ∙ ap (λ hs. (l, None) ∷ hs) (p.idle not_shared).0;
+      hand = ap (λ (u : Mine K E Global). u.1) shows ∙ ap (λ hs. (place l, None) ∷ hs) (p.idle not_shared).0;
       held = held;
       alone = λ i n. ap (λ (u : Mine K E Global). get_or u.0.held i 0) shows
           ∙ (get_or-set_other v.held l i w 0 n ∙ (p.idle not_shared).1 i);
@@ -162,12 +159,7 @@ module _ {K A S E : Type 0} {g : kept.Ghosts K A S E} (p : Pass K A S E g) (l w 
         ap (λ (u : Mine K E Global). u.0.number) shows ∙ p.stands.1,
         ap (λ (u : Mine K E Global). u.0.others) shows ∙ p.stands.2,
       );
-      sized = subst (λ (z : TableId). (p.lane < z.words) × (z.slots ≡ z.words) × (length m2.0.held ≡ z.words))
-          (sym same) (
-            p.sized.0,
-            p.sized.1,
-            ap (λ (u : Mine K E Global). length u.0.held) shows ∙ (length-set v.held l w ∙ p.sized.2),
-          );
+      sized = held_sized p m2 t same (ap (λ (u : Mine K E Global). length u.0.held) shows ∙ length-set v.held l w);
       has_seen = long ∙ ap length (sym shown);
       idle = λ e. absurd (false≢true (sym e));
       pinned = λ n. subst (λ (k : ℕ). get_or m2.0.held (k - 1) 0 ≢ 0) (sym pin)

@@ -1,6 +1,6 @@
 -- The rule holds of a new table.
-use Rattle.std.proofs.Common.{true, append-nil, length-append, ◌≡◌, ◌⊎◌, ⊎_elim, inl, inr, ℕ, zero, suc, ◌+◌, ◌-◌, ◌<◌}
-use Rattle.std.proofs.Common.{◌≤◌, List, [], ◌∷◌, ◌++◌, length, take, drop, map, replicate, get_or, sym, refl, ap, ◌∙◌}
+use Rattle.std.proofs.Common.{true, append-nil, length-append, ◌≡◌, ◌⊎◌, ⊎_elim, inl, inr, ℕ, zero, suc, ◌+◌, ◌-◌}
+use Rattle.std.proofs.Common.{◌<◌, ◌≤◌, List, [], ◌∷◌, ◌++◌, length, take, drop, map, replicate, get_or, sym, refl, ap, ◌∙◌}
 use Rattle.std.proofs.Common.{subst, arith, Option, Some, None}
 use Rattle.std.proofs.Math.Seq.{drop-length}
 use mathlib.Core.Option.{some, some-injective, some-ne-none}
@@ -15,7 +15,7 @@ use Rattle.lane_lock.specs.declared.table.Setup.{Setup}
 use Rattle.lane_lock.specs.History.{made_by, Legal}
 use Rattle.lane_lock.specs.Opening.{AreShares}
 use Rattle.lane_lock.specs.Views.{HasApart, tail, alone, first_alone, without_one}
-use Rattle.lane_lock.specs.Rule.{newcomer, Knows, Ruled, Opens, starting, crowd}
+use Rattle.lane_lock.specs.Rule.{newcomer, Knows, Ruled, Opens, place, starting, crowd}
 
 unmap : {A : Type 0} (l : List A) (k : ℕ) (a : A) → get_elem? (map some l) k ≡ some (some a) → get_elem? l k ≡ some a
 unmap [] k a e = absurd (some-ne-none (some a) (sym e))
@@ -62,11 +62,11 @@ module _ {K E : Type 0} (Z : Type 0) (hist : K → List E) (by : E → ℕ) (key
     deep = length-map slots (λ (x : Option (Arc K Z)). some x) ∙ o.deep;
     few = o.few;
     opened = ([], sym (append-nil H));
-    home = λ k l z. some_there slots k (omega arith);
-    out = λ k n. absurd (n (o.blank k));
-    shown = λ k a e. o.shares k a (unmap slots k (Some a) e);
+    home = λ k l z. some_there slots (place k) (omega arith);
+    out = λ k n. absurd (n (o.blank (place k)));
+    shown = λ k a e. o.shares (place k) a (unmap slots (place k) (Some a) e);
     filled = λ e. o.first (unmap slots 0 None e);
-    named = λ k n. absurd (n (o.blank k));
+    named = λ k n. absurd (n (o.blank (place k)));
     each = λ j v e. let t = only (starting hist key) v j e in subst
         (λ (c : ℕ × View E). Knows by key.lanes key.passes H (λ _. 0) H words c.0 c.1)
         (λ i. (sym t.0 i, t.1 i)) record {

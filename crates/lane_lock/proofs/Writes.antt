@@ -416,11 +416,11 @@ appended {E = E} by m m' v h r back is grown maker = record {
 }
 
 -- a writer that has all lanes can put lane 0 back with a record
-pub recording_pass : {E : Type 0} (v w : View E) (lanes slots : ℕ) → w ≡ v → lanes ≡ slots
+pub recording_pass : {E : Type 0} (v w : View E) (lanes all : ℕ) → w ≡ v → lanes ≡ all
     → (v.stands ≡ true) × (v.others ≡ []) × (length v.held ≡ lanes)
     × ((k : ℕ) → k < lanes → get_or v.held k 0 ≢ 0) × (v.pin ≡ 1)
-    → (w.stands ≡ true) × (w.others ≡ []) × (length w.held ≡ slots)
-    × ((k : ℕ) → k < slots → get_or w.held k 0 ≢ 0) × (w.pin ≢ 0)
-recording_pass {E} v w lanes slots same count has = subst (λ (z : View E × ℕ). (z.0.stands ≡ true)
+    → (w.stands ≡ true) × (w.others ≡ []) × (length w.held ≡ all)
+    × ((k : ℕ) → k < all → get_or w.held k 0 ≢ 0) × (w.pin ≢ 0)
+recording_pass {E} v w lanes all same count has = subst (λ (z : View E × ℕ). (z.0.stands ≡ true)
     × (z.0.others ≡ []) × (length z.0.held ≡ z.1) × ((k : ℕ) → k < z.1 → get_or z.0.held k 0 ≢ 0) × (z.0.pin ≢ 0))
     (λ i. (sym same i, count i)) (has.0, has.1, has.2, has.3, λ z. let pin = has.4 in omega (arith, pin, z))

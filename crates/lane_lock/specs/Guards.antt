@@ -4,6 +4,7 @@ use Rattle.std.specs.Prelude.{Option, None, is_some}
 use Rattle.std.specs.declared.sync.Arc.{Arc}
 use Rattle.lane_lock.specs.Hands.{Stack, Shows}
 use Rattle.lane_lock.specs.History.{StartsWith}
+use Rattle.lane_lock.specs.Rule.{place}
 use Rattle.lane_lock.specs.Steps.{Mine, share_history}
 use Rattle.lane_lock.specs.Views.{IsLegal}
 
@@ -15,7 +16,7 @@ pub record HasOneLane {K E Z : Type 0} (hist : K → List E) (by : E
   pub shows : share_history hist share [] ≡ m.0.seen
   pub opened : StartsWith m.0.seen m.0.opening
   pub legal : IsLegal by m.0
-  pub hand : m.1 ≡ (k, None) ∷ []
+  pub hand : m.1 ≡ (place k, None) ∷ []
   pub held : slice_index m.0.held k ≢ 0
   pub alone : (i : ℕ) → i ≢ k → slice_index m.0.held i ≡ 0
   pub pinned : m.0.pin ≢ 0

@@ -5,6 +5,7 @@ use Rattle.std.specs.Prelude.{zero, suc}
 use Rattle.std.specs.Arc.{arc_value}
 use Rattle.std.specs.declared.sync.Arc.{Arc}
 use Rattle.atomic_table.specs.Table.{rest}
+use Rattle.lane_lock.specs.Rule.{place}
 use Rattle.lane_lock.specs.Steps.{Mine}
 
 module _ {K Z : Type 0} where
@@ -24,7 +25,7 @@ module _ {K Z : Type 0} where
       → Type 0
   Stack P zero hand below = hand ≡ below
   Stack P (suc n) hand below =
-      (x : Option (Arc K Z)) × (hand ≡ (suc n, x) ∷ rest hand) × P x × Stack P n (rest hand) below
+      (x : Option (Arc K Z)) × (hand ≡ (place (suc n), x) ∷ rest hand) × P x × Stack P n (rest hand) below
 
   -- of the lanes from n down to 1 those above k were emptied and lie behind lane 0
   pub record Dropped (n k : ℕ) (hand : List (ℕ × Option (Arc K Z))) : Type 0 where

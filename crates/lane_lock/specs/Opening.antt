@@ -7,9 +7,9 @@ use Rattle.std.specs.declared.sync.Arc.{Arc}
 use Rattle.lane_lock.specs.declared.refusal.NewError.{NewError}
 use Rattle.lane_lock.specs.declared.refusal.NewError.TheVariants as refusal
 
--- the slots of so many lanes, each with a share of the value of the first share, or none; lane 0 has one
-pub record AreShares {K Z : Type 0} (first : Arc K Z) (lanes : ℕ) (slots : List (Option (Arc K Z))) : Type 0 where
-  pub count : length slots ≡ lanes
+-- so many slots, each with a share of the value of the first share, or none; lane 0 has one
+pub record AreShares {K Z : Type 0} (first : Arc K Z) (many : ℕ) (slots : List (Option (Arc K Z))) : Type 0 where
+  pub count : length slots ≡ many
   pub shares : (k : ℕ) (a : Arc K Z) → get_elem? slots k ≡ some (Some a) → arc_value a ≡ arc_value first
   pub filled : get_elem? slots 0 ≢ some None
 

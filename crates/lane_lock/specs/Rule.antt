@@ -1,6 +1,6 @@
 -- The rule of a lock: what its words, its slots and the views of its passes have to do with one history. Every step
 -- keeps it.
-use Rattle.std.specs.Prelude.{◌≡◌, ◌≢◌, ◌⊎◌, ℕ, ◌+◌, ◌-◌, ◌*◌, ◌<◌, ◌≤◌}
+use Rattle.std.specs.Prelude.{◌≡◌, ◌≢◌, ◌⊎◌, ℕ, ◌+◌, ◌-◌, ◌*◌, ◌/◌, ◌<◌, ◌≤◌}
 use Rattle.std.specs.Prelude.{true, List, [], ◌∷◌, length, drop, replicate}
 use Rattle.std.specs.Prelude.{slice_index, Option, Some, None, zero, suc}
 use mathlib.Core.Option.{some, none}
@@ -12,6 +12,14 @@ use Rattle.lane_lock.specs.declared.table.View.{View}
 use Rattle.lane_lock.specs.declared.table.Known.{Known}
 use Rattle.lane_lock.specs.declared.table.Setup.{Setup}
 use Rattle.lane_lock.specs.History.{StartsWith, made_by, Legal}
+
+-- where in the table lane k has its word, and where its slot: 8 apart, so that no two lanes share a line of cache
+abbrev pub place : ℕ → ℕ
+place k = k * 8
+
+-- the lane of a place
+abbrev pub lane_at : ℕ → ℕ
+lane_at i = i / 8
 
 -- the word says that pass p has the lane, to read or to write
 abbrev pub Names : ℕ → ℕ → Type 0
@@ -30,7 +38,7 @@ module _ {E : Type 0} (by : E → ℕ) (lanes passes : ℕ) (opening : List E) (
         (o.number < passes) × (seat o.number ≡ j)
         × Legal by (length opening) history o.number o.seen o.made
     pub held : (k : ℕ) → slice_index v.held k ≢ 0 →
-        (slice_index words k ≡ slice_index v.held k) × (v.stands ≡ true)
+        (slice_index words (place k) ≡ slice_index v.held k) × (v.stands ≡ true)
         × Names v.number (slice_index v.held k)
     pub pin : v.pin ≢ 0 → (history ≡ v.seen) × (slice_index v.held (v.pin - 1) ≢ 0)
 
@@ -48,19 +56,19 @@ pub record Ruled {K E Z : Type 0} (hist : K → List E) (by : E
     → ℕ) (key : Setup K) (s : State (Option (Arc K Z)) (View E)) : Type 0 where
   pub history : List E
   pub seat : ℕ → ℕ
-  pub wide : length s.words ≡ key.lanes
-  pub deep : length s.homes ≡ key.lanes
+  pub wide : length s.words ≡ place key.lanes
+  pub deep : length s.homes ≡ place key.lanes
   pub few : (0 < key.lanes) × (key.passes ≤ 1024)
   pub opened : StartsWith history (hist key.value.value)
-  pub home : (k : ℕ) → k < key.lanes → slice_index s.words k ≡ 0
-      → (x : Option (Arc K Z)) × (get_elem? s.homes k ≡ some (some x))
-  pub out : (k : ℕ) → slice_index s.words k ≢ 0 → get_elem? s.homes k ≡ some none
-  pub shown : (k : ℕ) (a : Arc K Z) → get_elem? s.homes k ≡ some (some (Some a)) →
+  pub home : (k : ℕ) → k < key.lanes → slice_index s.words (place k) ≡ 0
+      → (x : Option (Arc K Z)) × (get_elem? s.homes (place k) ≡ some (some x))
+  pub out : (k : ℕ) → slice_index s.words (place k) ≢ 0 → get_elem? s.homes (place k) ≡ some none
+  pub shown : (k : ℕ) (a : Arc K Z) → get_elem? s.homes (place k) ≡ some (some (Some a)) →
       hist (arc_value a) ≡ history
   pub filled : get_elem? s.homes 0 ≢ some (some None)
-  pub named : (k : ℕ) → slice_index s.words k ≢ 0 →
-      (q : ℕ) × (q < key.passes) × Names q (slice_index s.words k)
-      × Has s.views (seat q) q k (slice_index s.words k)
+  pub named : (k : ℕ) → slice_index s.words (place k) ≢ 0 →
+      (q : ℕ) × (q < key.passes) × Names q (slice_index s.words (place k))
+      × Has s.views (seat q) q k (slice_index s.words (place k))
   pub each : (j : ℕ) (v : View E) → get_elem? s.views j ≡ some v
       → Knows by key.lanes key.passes (hist key.value.value) seat history s.words j v
   pub foreign : (p : ℕ) → key.passes ≤ p → made_by by p (drop (length (hist key.value.value)) history) ≡ []
@@ -94,8 +102,8 @@ starting hist key = newcomer (key.passes - 1) (hist key.value.value) key.passes 
 -- what a table begins with: lanes at home, each with a share of the opening value or none, and lane 0 with one
 pub record Opens {K E Z : Type 0} (hist : K
     → List E) (key : Setup K) (words : List ℕ) (slots : List (Option (Arc K Z))) : Type 0 where
-  pub wide : length words ≡ key.lanes
-  pub deep : length slots ≡ key.lanes
+  pub wide : length words ≡ place key.lanes
+  pub deep : length slots ≡ place key.lanes
   pub few : (0 < key.lanes) × (key.passes ≤ 1024)
   pub some_pass : 0 < key.passes
   pub blank : (k : ℕ) → slice_index words k ≡ 0

@@ -1,6 +1,7 @@
 //! The lock.
 
 ghost use Rattle.std.specs.Prelude.{◌≡◌, ◌<◌, ◌≤◌};
+ghost use Rattle.lane_lock.specs.Rule.{place};
 
 use crate::kept::Kept;
 use crate::table::LaneTable;
@@ -12,9 +13,9 @@ pub struct LaneLock<K: Kept> {
     pub(crate) table: LaneTable<K>,
     pub(crate) lanes: u16,
     pub(crate) passes: u16,
-    ghost sized: { (lanes ≡ table.shared.table_id.words)
+    ghost sized: { (place lanes ≡ table.shared.table_id.words)
         × (table.shared.table_id.slots ≡ table.shared.table_id.words)
-        × (table.shared.key.lanes ≡ table.shared.table_id.words) },
+        × (table.shared.key.lanes ≡ lanes) },
     ghost counted: { passes ≡ table.shared.key.passes },
     ghost few: { (0 < lanes) × (lanes ≤ 64) × (0 < passes) × (passes ≤ 1024) },
 }

@@ -4,32 +4,44 @@ ghost use Rattle.std.specs.Prelude.{◌≡◌, ℕ, ◌<◌, ◌≤◌, [], leng
 ghost use Rattle.std.specs.Prelude.{IfErr, IfSome};
 ghost use Rattle.lane_lock.specs.Opening.{AreShares, GivesBack};
 ghost use Rattle.lane_lock.specs.Passes.{opening_of, lanes_of, passes_of, IsNew, AllNew};
-ghost use Rattle.lane_lock.specs.Rule.{Opens, newcomer, starting};
+ghost use Rattle.lane_lock.specs.Rule.{Opens, newcomer, place, starting};
+ghost use Rattle.std.specs.Arc.{arc_value};
 
 use crate::kept::Kept;
 use crate::lock::LaneLock;
 use crate::pass::Pass;
 use crate::refusal::NewError;
 use crate::steps::split_off_pass;
-use crate::table::{LaneTable, PassSeat, Setup, Share};
+use crate::table::{LaneTable, PassSeat, Setup, Share, place};
 use atomic_table::{Refused, Table};
 use std::alloc::{AllocFailed, Global};
 use std::snapshot::Snapshot;
 use std::sync::Arc;
 
 // The words of the most lanes, all at home.
-static HOME_WORDS: [u64; 64] = [0; 64];
+static HOME_WORDS: [u64; 512] = [0; 512];
+
+// What a slot begins with: another share where it is a lane's, unless that is refused.
+fn share_for<K: Kept>(first: &Share<K>, slot: usize) -> Option<Share<K>>
+    ensures { IfSome result (λ share. arc_value share ≡ arc_value first.now) }
+{
+    if slot.is_multiple_of(8) {
+        Arc::try_clone(first).ok()
+    } else {
+        None
+    }
+}
 
 // The slots of so many lanes: lane 0 has a share, and each other has one unless it was refused. None for want of
 // memory.
 fn share_out<K: Kept>(alloc: Global, first: &Share<K>, lanes: u16) -> Option<Vec<Option<Share<K>>>>
     requires { 0 < lanes }
-    ensures { IfSome result (λ slots. AreShares first.now lanes slots.items) }
+    ensures { IfSome result (λ slots. AreShares first.now (place lanes) slots.items) }
 {
-    let mut slots = Vec::with_capacity(alloc, usize::from(lanes)).ok()?;
+    let mut slots = Vec::with_capacity(alloc, place(lanes)).ok()?;
     slots.push_reserved(Some(Arc::try_clone(first).ok()?));
-    for _lane in 1..lanes {
-        slots.push_reserved(Arc::try_clone(first).ok());
+    for slot in 1..place(lanes) {
+        slots.push_reserved(share_for(first, slot));
     }
     Some(slots)
 }
@@ -52,9 +64,9 @@ fn open_table<K: Kept>(
 // The words of so many lanes, all at home.
 fn home_words(lanes: u16) -> &'static [u64]
     requires { lanes ≤ 64 }
-    ensures { (length result.now ≡ lanes) × ((k : ℕ) → slice_index result.now k ≡ 0) }
+    ensures { (length result.now ≡ place lanes) × ((k : ℕ) → slice_index result.now k ≡ 0) }
 {
-    &HOME_WORDS[..usize::from(lanes)]
+    &HOME_WORDS[..place(lanes)]
 }
 
 // A pass that has seen and made nothing.

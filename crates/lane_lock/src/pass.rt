@@ -2,6 +2,7 @@
 
 ghost use Rattle.std.specs.Prelude.{◌≡◌, ◌≢◌, ℕ, ◌-◌, ◌<◌, true, false, [], length};
 ghost use Rattle.std.specs.Prelude.{slice_index, is_some};
+ghost use Rattle.lane_lock.specs.Rule.{place};
 
 use crate::kept::Kept;
 use crate::table::{PassSeat, Share};
@@ -18,8 +19,8 @@ pub struct Pass<K: Kept> {
     // Under a guard, or once one was forgotten: the share that the guard shows.
     pub(crate) share: Option<Share<K>>,
     ghost stands: { (seat.me.0.stands ≡ true) × (seat.me.0.number ≡ number) × (seat.me.0.others ≡ []) },
-    ghost sized: { (lane < seat.table_id.words) × (seat.table_id.slots ≡ seat.table_id.words)
-        × (length seat.me.0.held ≡ seat.table_id.words) },
+    ghost sized: { (lane < length seat.me.0.held) × (seat.table_id.slots ≡ seat.table_id.words)
+        × (place (length seat.me.0.held) ≡ seat.table_id.words) },
     ghost has_seen: { seen ≡ length seat.me.0.seen },
     ghost idle: { is_some share ≡ false →
         (seat.me.1 ≡ []) × ((k : ℕ) → slice_index seat.me.0.held k ≡ 0) },

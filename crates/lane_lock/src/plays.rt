@@ -1,6 +1,7 @@
 //! What each kind of step on the table tells the seat that makes it.
 
 ghost use Rattle.std.specs.Prelude.{[]};
+ghost use Rattle.lane_lock.specs.Rule.{lane_at};
 ghost use Rattle.lane_lock.specs.Steps.{took, ended, returned, committed};
 ghost use Rattle.lane_lock.specs.Views.{without_one, first_alone, note, note_of, learned, gathered};
 
@@ -15,7 +16,7 @@ pub(crate) struct Take<K> {
 }
 
 impl<K: Kept> Play<Option<Share<K>>, View<K::Record>> for Take<K> {
-    ghost then = { took K.history K.maker };
+    ghost then = { λ step. took K.history K.maker (lane_at step.word) step.second };
 }
 
 // A lane is put back, and none pins what was seen any more.
@@ -24,7 +25,7 @@ pub(crate) struct End<K> {
 }
 
 impl<K: Kept> Play<Option<Share<K>>, View<K::Record>> for End<K> {
-    ghost then = { ended };
+    ghost then = { λ step before _ after. ended (lane_at step.word) before after };
 }
 
 // A lane is put back, while another pins what was seen.
@@ -33,7 +34,7 @@ pub(crate) struct Return<K> {
 }
 
 impl<K: Kept> Play<Option<Share<K>>, View<K::Record>> for Return<K> {
-    ghost then = { returned };
+    ghost then = { λ step before _ after. returned (lane_at step.word) before after };
 }
 
 // Lane 0 is put back with one more record.
@@ -42,7 +43,7 @@ pub(crate) struct Commit<K> {
 }
 
 impl<K: Kept> Play<Option<Share<K>>, View<K::Record>> for Commit<K> {
-    ghost then = { committed K.history };
+    ghost then = { λ step before _ after. committed K.history (lane_at step.slots) before after };
 }
 
 // The first further pass gets a seat of its own.

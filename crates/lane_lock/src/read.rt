@@ -10,7 +10,7 @@ use crate::kept::Kept;
 use crate::lock::LaneLock;
 use crate::pass::Pass;
 use crate::refusal::{Busy, NotNow};
-use crate::steps::{put_back_last, put_back_with, take_lane};
+use crate::steps::{exchange, put_back_last, put_back_with, take_lane};
 use iofd_words::PassNo;
 
 // The pass that a lane's word names.
@@ -30,18 +30,18 @@ impl<K: Kept> LaneLock<K> {
         ensures reading { OnOk result (IsReading pass.new) }
         ensures refused { IfErr result (λ e. RefusesRead (view_of pass.old) (view_of pass.new) pass.old.lane e) }
     {
-        let lane = usize::from(pass.lane);
+        let lanes = &self.table.shared;
         let word = 2 * u64::from(pass.number) + 1;
-        let found = take_lane(&self.table.shared, &mut pass.seat, lane, word);
+        let found = take_lane(lanes, &mut pass.seat, pass.lane, word);
         if found != 0 {
             return Err(NotNow::Busy(Busy {
                 lane: pass.lane,
                 holder: holder_of(found),
             }));
         }
-        match self.table.shared.exchange(&mut pass.seat, lane, None) {
+        match exchange(lanes, &mut pass.seat, pass.lane, None) {
             None => {
-                put_back_last(&self.table.shared, &mut pass.seat, lane);
+                put_back_last(lanes, &mut pass.seat, pass.lane);
                 Err(NotNow::Shared)
             }
             Some(share) => {
@@ -60,8 +60,7 @@ impl<K: Kept> LaneLock<K> {
         ensures history { KeepsHistory (view_of pass.old) (view_of pass.new) }
         ensures blank { IsBlank (view_of pass.new) }
     {
-        let lane = usize::from(pass.lane);
         let share = pass.share.take();
-        put_back_with(&self.table.shared, &mut pass.seat, lane, share);
+        put_back_with(&self.table.shared, &mut pass.seat, pass.lane, share);
     }
 }

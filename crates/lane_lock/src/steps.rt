@@ -2,56 +2,71 @@
 
 ghost use Rattle.std.specs.Prelude.{◌≡◌, ◌≢◌, ℕ, ◌+◌, ◌-◌, ◌*◌, ◌<◌, ◌⊎◌, true};
 ghost use Rattle.std.specs.Prelude.{[], ◌∷◌, length, slice_index};
-ghost use mathlib.Core.Option.{none};
-ghost use Rattle.atomic_table.specs.Table.{step, rest};
+ghost use Rattle.atomic_table.specs.Table.{rest};
+ghost use Rattle.lane_lock.specs.Rule.{place};
 ghost use Rattle.lane_lock.specs.Steps.{SameSeat, took, Offers, IsShare, committed, Writes};
 ghost use Rattle.lane_lock.specs.Views.{freed, HasApart, IsBlank, without_one, first_alone, note, learned, gathered};
 
 use crate::kept::Kept;
 use crate::plays::{Commit, Deal, End, Gather, Learn, Return, Take, Tell};
-use crate::table::{PassSeat, Share, SharedLanes};
+use crate::table::{PassSeat, Share, SharedLanes, place};
 
 // Takes a lane for the pass, by its word, to read or to write. The answer is 0 where it was at home, and else the
 // word found.
 pub(crate) fn take_lane<K: Kept>(
     lanes: &SharedLanes<K>,
     seat: &mut PassSeat<K>,
-    lane: usize,
+    lane: u16,
     word: u64,
 ) -> u64
-    requires table { (seat.old.table_id ≡ lanes.now.table_id) × (lane < lanes.now.table_id.words)
-        × (lanes.now.key.lanes ≡ lanes.now.table_id.words) }
+    requires table { (seat.old.table_id ≡ lanes.now.table_id) × (place lane < lanes.now.table_id.words)
+        × (place lanes.now.key.lanes ≡ lanes.now.table_id.words) }
     requires pass { (seat.old.me.0.stands ≡ true)
         × ((word ≡ 2 * seat.old.me.0.number + 1) ⊎ (word ≡ 2 * seat.old.me.0.number + 2)) }
     ensures same_seat { SameSeat seat.old seat.new }
-    ensures told { took K.history K.maker
-        (step lanes.now.table_id.slots lane 0 word none) seat.old.me result seat.new.me }
+    ensures told { took K.history K.maker lane word seat.old.me result seat.new.me }
 {
-    lanes.compare_exchange::<Take<K>>(seat, lane, 0, word)
+    lanes.compare_exchange::<Take<K>>(seat, place(lane), 0, word)
+}
+
+// Exchanges what the slot has of the lane that was taken last.
+pub(crate) fn exchange<K: Kept>(
+    lanes: &SharedLanes<K>,
+    seat: &mut PassSeat<K>,
+    lane: u16,
+    share: Option<Share<K>>,
+) -> Option<Share<K>>
+    requires { (seat.old.table_id ≡ lanes.now.table_id)
+        × ((old : _) × (seat.old.me.1 ≡ (place lane, old) ∷ rest seat.old.me.1)) }
+    ensures { (seat.new.table_id ≡ seat.old.table_id) × (seat.new.id ≡ seat.old.id)
+        × (seat.old.me.1 ≡ (place lane, result) ∷ rest seat.old.me.1)
+        × (seat.new.me ≡ (seat.old.me.0, (place lane, share) ∷ rest seat.old.me.1)) }
+{
+    lanes.exchange(seat, place(lane), share)
 }
 
 // Puts the last lane back, with a share of what the pass has seen or with none.
-pub(crate) fn put_back_last<K: Kept>(lanes: &SharedLanes<K>, seat: &mut PassSeat<K>, lane: usize)
-    requires table { (seat.old.table_id ≡ lanes.now.table_id) × (lane < lanes.now.table_id.words) }
+pub(crate) fn put_back_last<K: Kept>(lanes: &SharedLanes<K>, seat: &mut PassSeat<K>, lane: u16)
+    requires table { (seat.old.table_id ≡ lanes.now.table_id) × (place lane < lanes.now.table_id.words) }
     requires pass { (seat.old.me.0.stands ≡ true) × (slice_index seat.old.me.0.held lane ≢ 0) }
     requires share { Offers K.history seat.old.me.0 lane seat.old.me.1 }
     ensures same_seat { SameSeat seat.old seat.new }
     ensures told { seat.new.me ≡ (freed seat.old.me.0 lane 0, rest seat.old.me.1) }
 {
-    lanes.store::<End<K>>(seat, lane, 0)
+    lanes.store::<End<K>>(seat, place(lane), 0)
 }
 
 // Puts lane 0 back with one more record, while the pass holds every lane: the one step by which the history grows.
 pub(crate) fn put_back_with_record<K: Kept>(lanes: &SharedLanes<K>, seat: &mut PassSeat<K>)
     requires table { (seat.old.table_id ≡ lanes.now.table_id) × (0 < lanes.now.table_id.words)
-        × (lanes.now.key.lanes ≡ lanes.now.table_id.slots) }
+        × (place lanes.now.key.lanes ≡ lanes.now.table_id.slots) }
     requires pass { (seat.old.me.0.stands ≡ true) × (seat.old.me.0.others ≡ [])
-        × (length seat.old.me.0.held ≡ lanes.now.table_id.slots)
-        × ((k : ℕ) → k < lanes.now.table_id.slots → slice_index seat.old.me.0.held k ≢ 0)
+        × (length seat.old.me.0.held ≡ lanes.now.key.lanes)
+        × ((k : ℕ) → k < lanes.now.key.lanes → slice_index seat.old.me.0.held k ≢ 0)
         × (seat.old.me.0.pin ≢ 0) }
     requires share { Writes K.history K.maker seat.old.me }
     ensures same_seat { SameSeat seat.old seat.new }
-    ensures told { committed K.history (step lanes.now.table_id.slots 0 0 0 none) seat.old.me 0 seat.new.me }
+    ensures told { committed K.history lanes.now.key.lanes seat.old.me seat.new.me }
 {
     lanes.store::<Commit<K>>(seat, 0, 0)
 }
@@ -89,31 +104,31 @@ pub(crate) fn gather<K: Kept>(lanes: &SharedLanes<K>, seat: &mut PassSeat<K>, ot
 }
 
 // Puts a lane back, while another still pins what the pass has seen: with a share of that, or with none.
-pub(crate) fn put_back_pinned<K: Kept>(lanes: &SharedLanes<K>, seat: &mut PassSeat<K>, lane: usize)
-    requires table { (seat.old.table_id ≡ lanes.now.table_id) × (lane < lanes.now.table_id.words) }
+pub(crate) fn put_back_pinned<K: Kept>(lanes: &SharedLanes<K>, seat: &mut PassSeat<K>, lane: u16)
+    requires table { (seat.old.table_id ≡ lanes.now.table_id) × (place lane < lanes.now.table_id.words) }
     requires pass { (seat.old.me.0.stands ≡ true) × (slice_index seat.old.me.0.held lane ≢ 0)
         × (seat.old.me.0.pin ≢ 0 → seat.old.me.0.pin - 1 ≢ lane) }
     requires share { Offers K.history seat.old.me.0 lane seat.old.me.1 }
     ensures same_seat { SameSeat seat.old seat.new }
     ensures told { seat.new.me ≡ (freed seat.old.me.0 lane seat.old.me.0.pin, rest seat.old.me.1) }
 {
-    lanes.store::<Return<K>>(seat, lane, 0)
+    lanes.store::<Return<K>>(seat, place(lane), 0)
 }
 
 // Puts the last lane back with this in its slot.
 pub(crate) fn put_back_with<K: Kept>(
     lanes: &SharedLanes<K>,
     seat: &mut PassSeat<K>,
-    lane: usize,
+    lane: u16,
     share: Option<Share<K>>,
 )
-    requires table { (seat.old.table_id ≡ lanes.now.table_id) × (lane < lanes.now.table_id.words) }
+    requires table { (seat.old.table_id ≡ lanes.now.table_id) × (place lane < lanes.now.table_id.words) }
     requires pass { (seat.old.me.0.stands ≡ true) × (slice_index seat.old.me.0.held lane ≢ 0) }
-    requires hand { (old : _) × (seat.old.me.1 ≡ (lane, old) ∷ rest seat.old.me.1) }
+    requires hand { (old : _) × (seat.old.me.1 ≡ (place lane, old) ∷ rest seat.old.me.1) }
     requires share { IsShare K.history seat.old.me.0 lane share }
     ensures same_seat { SameSeat seat.old seat.new }
     ensures told { seat.new.me ≡ (freed seat.old.me.0 lane 0, rest seat.old.me.1) }
 {
-    drop(lanes.exchange(seat, lane, share));
+    drop(exchange(lanes, seat, lane, share));
     put_back_last(lanes, seat, lane);
 }

@@ -1,5 +1,9 @@
-//! The table of a lock: a word and a slot for each lane. Word k is 0 where lane k is at home, 2 p + 1 where pass p
-//! has it to read and 2 p + 2 where p has it to write. Slot k has a share of the value, or none.
+//! The table of a lock: a word and a slot for each lane. The word is 0 where the lane is at home, 2 p + 1 where pass p
+//! has it to read and 2 p + 2 where p has it to write. The slot has a share of the value, or none. Words and slots have
+//! 8 bytes each, and a line of cache mostly has 64: so lane k has word 8 k and slot 8 k, and those between are unused.
+
+ghost use Rattle.std.specs.Prelude.{◌≡◌};
+ghost use Rattle.lane_lock.specs.Rule.{place};
 
 use crate::kept::Kept;
 use atomic_table::{Seat, Shared, Table, TableRule};
@@ -82,3 +86,10 @@ pub(crate) type SharedLanes<K> = Shared<
 >;
 
 pub(crate) type PassSeat<K> = Seat<Option<Share<K>>, View<<K as Kept>::Record>>;
+
+// Where a lane has its word, and where its slot.
+pub(crate) fn place(lane: u16) -> usize
+    ensures { result ≡ place lane }
+{
+    lane as usize * 8
+}

@@ -5,12 +5,13 @@ ghost use Rattle.std.specs.Prelude.{◌≤◌, true, [], ◌∷◌, None, length
 ghost use Rattle.std.specs.Prelude.{slice_index, MatchOption};
 ghost use Rattle.lane_lock.specs.Hands.{Anything, Climbed, Dropped, Lowered, Shows, Stack};
 ghost use Rattle.lane_lock.specs.Outcomes.{Stops};
+ghost use Rattle.lane_lock.specs.Rule.{place};
 ghost use Rattle.lane_lock.specs.Steps.{SameSeat};
 
 use crate::kept::Kept;
 use crate::read::holder_of;
 use crate::refusal::Busy;
-use crate::steps::{put_back_pinned, take_lane};
+use crate::steps::{exchange, put_back_pinned, take_lane};
 use crate::table::{PassSeat, Share, SharedLanes};
 use std::sync::Arc;
 
@@ -22,8 +23,8 @@ pub(crate) fn take_upper<K: Kept>(
     count: u16,
     word: u64,
 ) -> Option<Busy>
-    requires table { (seat.old.table_id ≡ lanes.now.table_id) × (0 < count) × (count ≡ lanes.now.table_id.words)
-        × (lanes.now.key.lanes ≡ lanes.now.table_id.words) }
+    requires table { (seat.old.table_id ≡ lanes.now.table_id) × (0 < count) × (place count ≡ lanes.now.table_id.words)
+        × (place lanes.now.key.lanes ≡ lanes.now.table_id.words) }
     requires pass { (seat.old.me.0.stands ≡ true) × (length seat.old.me.0.held ≡ count)
         × (seat.old.me.0.pin ≢ 0)
         × (word ≡ 2 * seat.old.me.0.number + 2) }
@@ -32,7 +33,7 @@ pub(crate) fn take_upper<K: Kept>(
         (b.lane < count) × Stops K.history seat.old.me word b seat.new.me) }
 {
     for lane in 1..count {
-        let found = take_lane(lanes, seat, lane as usize, word);
+        let found = take_lane(lanes, seat, lane, word);
         if found != 0 {
             return Some(Busy {
                 lane,
@@ -45,7 +46,7 @@ pub(crate) fn take_upper<K: Kept>(
 
 // Puts the lanes `count - 1` down to 1 back, each with what its slot had.
 pub(crate) fn put_back_upper<K: Kept>(lanes: &SharedLanes<K>, seat: &mut PassSeat<K>, count: u16)
-    requires table { (seat.old.table_id ≡ lanes.now.table_id) × (0 < count) × (count ≤ lanes.now.table_id.words) }
+    requires table { (seat.old.table_id ≡ lanes.now.table_id) × (0 < count) × (place count ≤ lanes.now.table_id.words) }
     requires pass { (seat.old.me.0.stands ≡ true) × (seat.old.me.0.pin ≢ 0)
         × ((k : ℕ) → 0 < k → k < count →
         (slice_index seat.old.me.0.held k ≢ 0) × (seat.old.me.0.pin ≢ k + 1)) }
@@ -54,7 +55,7 @@ pub(crate) fn put_back_upper<K: Kept>(lanes: &SharedLanes<K>, seat: &mut PassSea
     ensures same_seat { SameSeat seat.old seat.new }
     ensures lowered { Lowered (Shows K.history seat.old.me.0.seen) (count - 1) 0 seat.old.me seat.new.me }
 {
-    let mut lane = count as usize;
+    let mut lane = count;
     while lane > 1 {
         lane -= 1;
         put_back_pinned(lanes, seat, lane);
@@ -81,7 +82,7 @@ pub(crate) fn refill<K: Kept>(
     count: u16,
 )
     requires table { (seat.old.table_id ≡ lanes.now.table_id) × (low < count)
-        × (count ≤ lanes.now.table_id.words) }
+        × (place count ≤ lanes.now.table_id.words) }
     requires pass { (seat.old.me.0.stands ≡ true) × (seat.old.me.0.pin ≡ low + 1)
         × ((k : ℕ) → low < k → k < count → slice_index seat.old.me.0.held k ≢ 0) }
     requires stack { Stack Anything (count - 1) seat.old.me.1 (drop (count - 1) seat.old.me.1) }
@@ -89,10 +90,10 @@ pub(crate) fn refill<K: Kept>(
     ensures same_seat { SameSeat seat.old seat.new }
     ensures lowered { Lowered Anything (count - 1) low seat.old.me seat.new.me }
 {
-    let mut lane = count as usize;
-    while lane > low as usize + 1 {
+    let mut lane = count;
+    while lane > low + 1 {
         lane -= 1;
-        drop(lanes.exchange(seat, lane, another(share)));
+        drop(exchange(lanes, seat, lane, another(share)));
         put_back_pinned(lanes, seat, lane);
     }
 }
@@ -105,10 +106,10 @@ pub(crate) fn drop_shares<K: Kept>(lanes: &SharedLanes<K>, seat: &mut PassSeat<K
     ensures view { seat.new.me.0 ≡ seat.old.me.0 }
     ensures dropped { Dropped (count - 1) 0 seat.new.me.1 }
 {
-    let mut lane = count as usize;
+    let mut lane = count;
     while lane > 1 {
         lane -= 1;
-        drop(lanes.exchange(seat, lane, None));
+        drop(exchange(lanes, seat, lane, None));
         seat.turn();
     }
 }

@@ -8,6 +8,7 @@ ghost use Rattle.atomic_table.specs.Table.{rest};
 ghost use Rattle.lane_lock.specs.Hands.{AllBack, Anything, Stack};
 ghost use Rattle.lane_lock.specs.Outcomes.{OnlySees, KeepsHistory, RefusesWrite};
 ghost use Rattle.lane_lock.specs.Passes.{Owns, SamePass, IsWriting, ShowsValue, Commits, view_of};
+ghost use Rattle.lane_lock.specs.Rule.{place};
 ghost use Rattle.lane_lock.specs.Views.{IsBlank};
 ghost use Rattle.lane_lock.specs.Steps.{SameSeat};
 
@@ -16,7 +17,7 @@ use crate::lock::LaneLock;
 use crate::pass::Pass;
 use crate::read::holder_of;
 use crate::refusal::{Busy, CommitError};
-use crate::steps::{put_back_with, put_back_with_record, take_lane};
+use crate::steps::{exchange, put_back_with, put_back_with_record, take_lane};
 use crate::table::{PassSeat, Share, SharedLanes};
 use crate::upper_lanes::{drop_shares, put_back_upper, refill, take_upper};
 use iofd_words::PassNo;
@@ -53,8 +54,8 @@ fn put_back_grown<K: Kept>(
     count: u16,
     share: Share<K>,
 )
-    requires table { (seat.old.table_id ≡ lanes.now.table_id) × (0 < count) × (count ≡ lanes.now.table_id.words)
-        × (count ≡ lanes.now.table_id.slots) × (count ≡ lanes.now.key.lanes) }
+    requires table { (seat.old.table_id ≡ lanes.now.table_id) × (0 < count) × (place count ≡ lanes.now.table_id.words)
+        × (place count ≡ lanes.now.table_id.slots) × (count ≡ lanes.now.key.lanes) }
     requires pass { (seat.old.me.0.stands ≡ true) × (seat.old.me.0.others ≡ [])
         × (length seat.old.me.0.held ≡ count) × ((k : ℕ) → k < count → slice_index seat.old.me.0.held k ≢ 0)
         × (seat.old.me.0.pin ≡ 1) }
@@ -70,7 +71,7 @@ fn put_back_grown<K: Kept>(
     } else {
         None
     };
-    drop(lanes.exchange(seat, 0, Some(share)));
+    drop(exchange(lanes, seat, 0, Some(share)));
     put_back_with_record(lanes, seat);
     if count > 1 {
         refill(lanes, seat, &spare, 1, count);
@@ -86,7 +87,7 @@ fn put_back_emptied<K: Kept>(
     count: u16,
     share: Share<K>,
 )
-    requires table { (seat.old.table_id ≡ lanes.now.table_id) × (0 < count) × (count ≡ lanes.now.table_id.words) }
+    requires table { (seat.old.table_id ≡ lanes.now.table_id) × (0 < count) × (place count ≡ lanes.now.table_id.words) }
     requires pass { (seat.old.me.0.stands ≡ true) × (length seat.old.me.0.held ≡ count)
         × ((k : ℕ) → k < count → slice_index seat.old.me.0.held k ≢ 0) × (seat.old.me.0.pin ≡ 1) }
     requires hand { (seat.old.me.1 ≡ (0, None) ∷ rest seat.old.me.1)
@@ -120,7 +121,7 @@ impl<K: Kept> LaneLock<K> {
                 holder: holder_of(found),
             });
         }
-        let Some(share) = lanes.exchange(&mut pass.seat, 0, None) else {
+        let Some(share) = exchange(lanes, &mut pass.seat, 0, None) else {
             unreachable!()
         };
         pass.seen = share.len();

@@ -1,4 +1,4 @@
-use Rattle.std.proofs.Common.{◌≡◌, ◌+◌, ℕ, ◌<◌, length, ◌-◌, rules, arith, sym, subst, ap, ◌∙◌, []}
+use Rattle.std.proofs.Common.{◌≡◌, ◌+◌, length, ◌-◌, rules, arith, sym, subst, ap, ◌∙◌, []}
 use Rattle.lane_lock.specs.Passes.{AllNew, opening_of}
 use Rattle.lane_lock.proofs.NewPasses.{more_new, none_there}
 use Rattle.lane_lock.proofs.Starts.{apart_in, cut_off_in, left_over_in, starts_full}
@@ -9,13 +9,13 @@ loop-number-init g c = let lock = c.args.lock.now in let room = c.requires.room 
   room = room.1;
   table = c.requires.seat.0;
   view = c.requires.seat.1 ∙ starts_full (opening_of g.K.Kept.history lock) lock.passes lock.table.shared.key.passes
-      lock.lanes lock.table.shared.key.lanes lock.counted (lock.sized.0 ∙ sym lock.sized.2);
+      lock.lanes lock.table.shared.key.lanes lock.counted (sym lock.sized.2);
   new = record { count = ap length room.0; each = λ i p e. absurd (none_there room.0 i p e) };
 }
 
 pub split_off_pass-cut-requires-clause-table : goal.split_off_pass-cut-requires-clause-table
 split_off_pass-cut-requires-clause-table g c = let lock = c.args.lock.now in
-    (c.loop-number.invariant.table, subst (λ (n : ℕ). 0 < n) lock.sized.0 lock.few.0)
+    let some = lock.few.0 in let words = lock.sized.0 in (c.loop-number.invariant.table, omega (arith, some, words))
 
 pub split_off_pass-cut-requires-clause-pass : goal.split_off_pass-cut-requires-clause-pass
 split_off_pass-cut-requires-clause-pass g c = let lock = c.args.lock.now in

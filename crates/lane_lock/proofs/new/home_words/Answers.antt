@@ -4,4 +4,4 @@ use Rattle.lane_lock.proofs.Starts.{zeros_within}
 use Rattle.lane_lock.proofs.new.home_words.Goals as goal
 
 pub returns : goal.returns
-returns c = (grind (arith, common_steps), λ k. zeros_within _ 64 k)
+returns c = (grind (arith, common_steps), λ k. zeros_within _ 512 k)

@@ -1,4 +1,5 @@
 use Rattle.std.proofs.Common.{ℕ, ◌<◌, None, rules, sym, ap, ◌∙◌, subst, arith}
+use Rattle.lane_lock.specs.Rule.{place}
 use Rattle.lane_lock.proofs.Writes.{grown_alone, grown_back, grown_last, grown_pass, grown_stack, recording_pass}
 use Rattle.lane_lock.proofs.write.put_back_grown.Goals as goal
 
@@ -6,16 +7,13 @@ pub exchange-requires : goal.exchange-requires
 exchange-requires g c = (c.requires.table.0, (None, c.requires.hand.0))
 
 pub put_back_with_record-requires-clause-table : goal.put_back_with_record-requires-clause-table
-put_back_with_record-requires-clause-table g c = let t = c.requires.table in (
-  c.exchange.ensures.0 ∙ t.0,
-  subst (λ (n : ℕ). 0 < n) t.2 t.1,
-  sym t.4 ∙ t.3,
-)
+put_back_with_record-requires-clause-table g c = let t = c.requires.table in let some = t.1 in let words = t.2 in
+    (c.exchange.ensures.0 ∙ t.0, omega (arith, some, words), ap place (sym t.4) ∙ t.3)
 
 pub put_back_with_record-requires-clause-pass : goal.put_back_with_record-requires-clause-pass
 put_back_with_record-requires-clause-pass g c =
-    recording_pass c.args.seat.now.me.0 c.exchange.new.seat.me.0 c.args.count c.args.lanes.now.table_id.slots
-    (ap (λ m. m.0) c.exchange.ensures.3) c.requires.table.3 c.requires.pass
+    recording_pass c.args.seat.now.me.0 c.exchange.new.seat.me.0 c.args.count c.args.lanes.now.key.lanes
+    (ap (λ m. m.0) c.exchange.ensures.3) c.requires.table.4 c.requires.pass
 
 pub put_back_with_record-requires-clause-share : goal.put_back_with_record-requires-clause-share
 put_back_with_record-requires-clause-share g c =
@@ -33,7 +31,7 @@ refill-requires-clause-pass g c =
     let told = c.put_back_with_record.ensures.told in
     grown_pass g.K.Kept.history c.args.seat.now.me c.exchange.new.seat.me c.put_back_with_record.new.seat.me
     c.args.count c.args.share c.requires.hand.0 c.requires.hand.1 c.exchange.ensures.3 told.0 c.requires.pass.0
-    (told.1 (subst (λ (n : ℕ). 1 < n) c.requires.table.3 c.if-count-gt1-2.true)) c.requires.pass.3
+    (told.1 (subst (λ (n : ℕ). 1 < n) c.requires.table.4 c.if-count-gt1-2.true)) c.requires.pass.3
 
 pub refill-requires-clause-stack : goal.refill-requires-clause-stack
 refill-requires-clause-stack g c = grown_stack g.K.Kept.history c.args.seat.now.me c.exchange.new.seat.me
@@ -41,11 +39,12 @@ refill-requires-clause-stack g c = grown_stack g.K.Kept.history c.args.seat.now.
     c.exchange.ensures.3 c.put_back_with_record.ensures.told.0
 
 pub put_back_with-requires-clause-table : goal.put_back_with-requires-clause-table
-put_back_with-requires-clause-table g c = let t = c.requires.table in (
-  c.refill.ensures.same_seat.0
-      ∙ (c.put_back_with_record.ensures.same_seat.0 ∙ (c.exchange.ensures.0 ∙ t.0)),
-  subst (λ (n : ℕ). 1 < n) t.2 c.if-count-gt1-2.true,
-)
+put_back_with-requires-clause-table g c = let t = c.requires.table in let words = t.2 in
+    let some = c.if-count-gt1-2.true in (
+      c.refill.ensures.same_seat.0
+          ∙ (c.put_back_with_record.ensures.same_seat.0 ∙ (c.exchange.ensures.0 ∙ t.0)),
+      omega (arith, words, some),
+    )
 
 pub put_back_with-requires-clause-pass : goal.put_back_with-requires-clause-pass
 put_back_with-requires-clause-pass g c =

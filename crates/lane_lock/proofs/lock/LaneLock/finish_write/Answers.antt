@@ -29,7 +29,7 @@ put_back_grown-requires-clause-table g c = let lock = c.args.self.now in (
   lock.few.0,
   lock.sized.0,
   lock.sized.0 ∙ sym lock.sized.1,
-  lock.sized.0 ∙ sym lock.sized.2,
+  sym lock.sized.2,
 )
 
 pub put_back_grown-requires-clause-pass : goal.put_back_grown-requires-clause-pass

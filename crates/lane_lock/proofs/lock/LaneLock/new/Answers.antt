@@ -1,5 +1,5 @@
 use Rattle.std.proofs.Common.{ℕ, ◌<◌, ◌≤◌, [], vec_capacity, refl, sym, ap, ◌∙◌, subst}
-use Rattle.lane_lock.specs.Rule.{starting}
+use Rattle.lane_lock.specs.Rule.{place, starting}
 use Rattle.lane_lock.proofs.lock.LaneLock.new.Goals as goal
 
 pub returns-in-Err-clause-refused : goal.returns-in-Err-clause-refused
@@ -19,8 +19,8 @@ home_words-requires g c = c.requires.lanes.1
 
 pub open_table-requires : goal.open_table-requires
 open_table-requires g c = let shares = c.in-Some.ensures in let passes = c.requires.passes in record {
-  wide = c.home_words.ensures.0 ∙ sym c.from-2.ensures;
-  deep = shares.count ∙ sym c.from-2.ensures;
+  wide = c.home_words.ensures.0 ∙ ap place (sym c.from-2.ensures);
+  deep = shares.count ∙ ap place (sym c.from-2.ensures);
   few = (
     subst (λ (n : ℕ). 0 < n) (sym c.from-2.ensures) c.requires.lanes.0,
     subst (λ (n : ℕ). n ≤ 1024) (sym c.from-3.ensures) passes.1,
@@ -37,7 +37,7 @@ invariant_of-lock g c = let opened = c.in-Ok-open_table.ensures in
       sized = (
         sym words,
         opened.1 ∙ (c.in-Some.ensures.count ∙ sym words),
-        ap (λ s. s.lanes) opened.4 ∙ (c.from-2.ensures ∙ sym words),
+        ap (λ s. s.lanes) opened.4 ∙ c.from-2.ensures,
       );
       counted = sym (ap (λ s. s.passes) opened.4 ∙ c.from-3.ensures);
       few = (c.requires.lanes.0, c.requires.lanes.1, c.requires.passes.0, c.requires.passes.1);

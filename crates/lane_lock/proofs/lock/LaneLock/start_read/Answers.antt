@@ -1,18 +1,15 @@
-use Rattle.std.proofs.Common.{ℕ, ◌+◌, ◌*◌, inl, length, refl, sym, ap, ◌∙◌, subst}
-use Rattle.lane_lock.specs.Outcomes.{MetHeld}
+use Rattle.std.proofs.Common.{◌+◌, ◌*◌, inl, length, refl, sym, ap, ◌∙◌}
+use Rattle.lane_lock.specs.Rule.{place}
 use Rattle.lane_lock.proofs.Climbs.{met}
 use Rattle.lane_lock.proofs.Guards.{in_front}
-use Rattle.lane_lock.proofs.PassKept.{lane_there, noted_history, noted_lanes, noted_pass, noted_sees}
+use Rattle.lane_lock.proofs.PassKept.{key_words, lane_there, noted_history, noted_lanes, noted_pass, noted_sees}
 use Rattle.lane_lock.proofs.ReaderPass.{empty_keeps, empty_offer, empty_pass, empty_refuses, empty_sees, odd_some}
 use Rattle.lane_lock.proofs.ReaderPass.{reader_has, reader_keeps, reader_sees}
 use Rattle.lane_lock.proofs.lock.LaneLock.start_read.Goals as goal
 
 pub take_lane-found-requires-clause-table : goal.take_lane-found-requires-clause-table
-take_lane-found-requires-clause-table g c = let lock = c.args.self.now in (
-  c.requires.table,
-  lane_there lock c.args.pass.now c.requires c.from-lane.result c.from-lane.ensures,
-  lock.sized.2,
-)
+take_lane-found-requires-clause-table g c = let lock = c.args.self.now in let pass = c.args.pass.now in
+    (c.requires.table, lane_there lock pass c.requires, key_words lock pass c.requires)
 
 pub take_lane-found-requires-clause-pass : goal.take_lane-found-requires-clause-pass
 take_lane-found-requires-clause-pass g c = let stands = c.args.pass.now.stands in
@@ -21,7 +18,7 @@ take_lane-found-requires-clause-pass g c = let stands = c.args.pass.now.stands i
 pub invariant_of-pass : goal.invariant_of-pass
 invariant_of-pass g c = let t = c.take_lane-found.ensures.told.1 c.if-found-ne0.true in
     let kept = noted_pass c.args.pass.now c.take_lane-found.new.seat.table_id c.take_lane-found.new.seat.me
-    c.from-lane.result c.take_lane-found.result c.take_lane-found.ensures.same_seat.0 t.0 in
+    c.args.pass.now.lane c.take_lane-found.result c.take_lane-found.ensures.same_seat.0 t.0 in
     record {
       stands = kept.stands;
       sized = kept.sized;
@@ -40,48 +37,47 @@ returns-then-found-ne0-clause-same g c =
 
 pub returns-then-found-ne0-clause-sees : goal.returns-then-found-ne0-clause-sees
 returns-then-found-ne0-clause-sees g c =
-    noted_sees c.args.pass.now.seat.me c.take_lane-found.new.seat.me c.from-lane.result c.take_lane-found.result
+    noted_sees c.args.pass.now.seat.me c.take_lane-found.new.seat.me c.args.pass.now.lane c.take_lane-found.result
     (c.take_lane-found.ensures.told.1 c.if-found-ne0.true).0
 
 pub returns-then-found-ne0-clause-refused : goal.returns-then-found-ne0-clause-refused
 returns-then-found-ne0-clause-refused g c =
     let t = c.take_lane-found.ensures.told.1 c.if-found-ne0.true in let m = c.args.pass.now.seat.me in
-    let lane = c.from-lane.result in let found = c.take_lane-found.result in
+    let lane = c.args.pass.now.lane in let found = c.take_lane-found.result in
     let after = c.take_lane-found.new.seat.me in (
       noted_history m after lane found t.0,
       noted_lanes m after lane found t.0,
       refl,
-      subst (λ (k : ℕ). MetHeld m.0 after.0 k c.holder_of.result.0) c.from-lane.ensures
-          (met m after lane found c.holder_of.result.0 t.0 c.holder_of.ensures t.2 t.3),
+      met m after lane found c.holder_of.result.0 t.0 c.holder_of.ensures t.2 t.3,
     )
 
 pub exchange-requires : goal.exchange-requires
 exchange-requires g c = let t = c.take_lane-found.ensures.told.0 c.if-found-ne0.false in
     let below = c.args.pass.now.seat.me.1 in let hand = c.take_lane-found.new.seat.me.1 in
-    (c.take_lane-found.ensures.same_seat.0 ∙ c.requires.table, (t.0, in_front hand below (c.from-lane.result, t.0) t.1))
+    (c.take_lane-found.ensures.same_seat.0 ∙ c.requires.table, (t.0, in_front hand below (place c.args.pass.now.lane, t.0) t.1))
 
 pub put_back_last-requires-clause-table : goal.put_back_last-requires-clause-table
 put_back_last-requires-clause-table g c = (
   c.in-None.ensures.0 ∙ (c.take_lane-found.ensures.same_seat.0 ∙ c.requires.table),
-  lane_there c.args.self.now c.args.pass.now c.requires c.from-lane.result c.from-lane.ensures,
+  lane_there c.args.self.now c.args.pass.now c.requires,
 )
 
 pub put_back_last-requires-clause-pass : goal.put_back_last-requires-clause-pass
 put_back_last-requires-clause-pass g c = let t = c.take_lane-found.ensures.told.0 c.if-found-ne0.false in
     let e = c.in-None.ensures in
-    empty_pass c.args.pass.now c.from-lane.result (2 * c.from.result + 1) c.from-lane.ensures (odd_some c.from.result)
+    empty_pass c.args.pass.now c.args.pass.now.lane (2 * c.from.result + 1) refl (odd_some c.from.result)
     t.0 c.take_lane-found.new.seat.me c.exchange.new.seat.me t.1 t.2 t.3 e.2 e.3
 
 pub put_back_last-requires-clause-share : goal.put_back_last-requires-clause-share
 put_back_last-requires-clause-share g c = let t = c.take_lane-found.ensures.told.0 c.if-found-ne0.false in
     let e = c.in-None.ensures in
-    empty_offer c.args.pass.now c.from-lane.result (2 * c.from.result + 1) c.from-lane.ensures (odd_some c.from.result)
+    empty_offer c.args.pass.now c.args.pass.now.lane (2 * c.from.result + 1) refl (odd_some c.from.result)
     t.0 c.take_lane-found.new.seat.me c.exchange.new.seat.me t.1 t.2 t.3 e.2 e.3
 
 pub invariant_of-pass-in-None : goal.invariant_of-pass-in-None
 invariant_of-pass-in-None g c = let t = c.take_lane-found.ensures.told.0 c.if-found-ne0.false in
     let e = c.in-None.ensures in
-    let kept = empty_keeps c.args.pass.now c.from-lane.result (2 * c.from.result + 1) c.from-lane.ensures
+    let kept = empty_keeps c.args.pass.now c.args.pass.now.lane (2 * c.from.result + 1) refl
     (odd_some c.from.result) t.0 c.take_lane-found.new.seat.me c.exchange.new.seat.me t.1 t.2 t.3 e.2 e.3
     c.put_back_last.new.seat.me c.put_back_last.ensures.told c.put_back_last.new.seat.table_id
     (c.put_back_last.ensures.same_seat.0 ∙ (e.0 ∙ c.take_lane-found.ensures.same_seat.0)) in
@@ -97,7 +93,7 @@ invariant_of-pass-in-None g c = let t = c.take_lane-found.ensures.told.0 c.if-fo
 pub invariant_of-pass-in-Some : goal.invariant_of-pass-in-Some
 invariant_of-pass-in-Some g c = let t = c.take_lane-found.ensures.told.0 c.if-found-ne0.false in
     let e = c.in-Some.ensures in
-    let kept = reader_keeps c.args.pass.now c.from-lane.result (2 * c.from.result + 1) c.from-lane.ensures
+    let kept = reader_keeps c.args.pass.now c.args.pass.now.lane (2 * c.from.result + 1) refl
     (odd_some c.from.result) t.0 c.take_lane-found.new.seat.me c.exchange.new.seat.me t.1 t.2 t.3 c.in-Some.share e.2
     e.3 c.exchange.new.seat.table_id c.len-pass.result (e.0 ∙ c.take_lane-found.ensures.same_seat.0)
     (c.len-pass.ensures ∙ ap (λ a. length (g.K.Kept.history a)) c.deref.ensures) in
@@ -120,14 +116,14 @@ returns-in-None-clause-same g c = record {
 pub returns-in-None-clause-sees : goal.returns-in-None-clause-sees
 returns-in-None-clause-sees g c = let t = c.take_lane-found.ensures.told.0 c.if-found-ne0.false in
     let e = c.in-None.ensures in
-    empty_sees c.args.pass.now c.from-lane.result (2 * c.from.result + 1) c.from-lane.ensures (odd_some c.from.result)
+    empty_sees c.args.pass.now c.args.pass.now.lane (2 * c.from.result + 1) refl (odd_some c.from.result)
     t.0 c.take_lane-found.new.seat.me c.exchange.new.seat.me t.1 t.2 t.3 e.2 e.3 c.put_back_last.new.seat.me
     c.put_back_last.ensures.told
 
 pub returns-in-None-clause-refused : goal.returns-in-None-clause-refused
 returns-in-None-clause-refused g c = let t = c.take_lane-found.ensures.told.0 c.if-found-ne0.false in
     let e = c.in-None.ensures in
-    empty_refuses c.args.pass.now c.from-lane.result (2 * c.from.result + 1) c.from-lane.ensures
+    empty_refuses c.args.pass.now c.args.pass.now.lane (2 * c.from.result + 1) refl
     (odd_some c.from.result) t.0 c.take_lane-found.new.seat.me c.exchange.new.seat.me t.1 t.2 t.3 e.2 e.3
     c.put_back_last.new.seat.me c.put_back_last.ensures.told
 
@@ -138,11 +134,11 @@ returns-in-Some-clause-same g c =
 pub returns-in-Some-clause-sees : goal.returns-in-Some-clause-sees
 returns-in-Some-clause-sees g c = let t = c.take_lane-found.ensures.told.0 c.if-found-ne0.false in
     let e = c.in-Some.ensures in
-    reader_sees c.args.pass.now c.from-lane.result (2 * c.from.result + 1) c.from-lane.ensures (odd_some c.from.result)
+    reader_sees c.args.pass.now c.args.pass.now.lane (2 * c.from.result + 1) refl (odd_some c.from.result)
     t.0 c.take_lane-found.new.seat.me c.exchange.new.seat.me t.1 t.2 t.3 c.in-Some.share e.2 e.3
 
 pub returns-in-Some-clause-reading : goal.returns-in-Some-clause-reading
 returns-in-Some-clause-reading g c = let t = c.take_lane-found.ensures.told.0 c.if-found-ne0.false in
     let e = c.in-Some.ensures in
-    reader_has c.args.pass.now c.from-lane.result (2 * c.from.result + 1) c.from-lane.ensures (odd_some c.from.result)
+    reader_has c.args.pass.now c.args.pass.now.lane (2 * c.from.result + 1) refl (odd_some c.from.result)
     t.0 c.take_lane-found.new.seat.me c.exchange.new.seat.me t.1 t.2 t.3 c.in-Some.share e.2 e.3

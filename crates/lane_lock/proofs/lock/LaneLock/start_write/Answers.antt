@@ -2,7 +2,7 @@ use Rattle.std.proofs.Common.{◌+◌, ◌-◌, ◌*◌, None, inr, length, refl
 use Rattle.lane_lock.specs.Hands.{Shows}
 use Rattle.lane_lock.proofs.Climbs.{met}
 use Rattle.lane_lock.proofs.Guards.{in_front}
-use Rattle.lane_lock.proofs.PassKept.{all_held, noted_lanes, noted_pass, noted_sees, some_held, some_words}
+use Rattle.lane_lock.proofs.PassKept.{all_held, key_words, noted_lanes, noted_pass, noted_sees, some_held, some_words}
 use Rattle.lane_lock.proofs.PassKept.{stopped_keeps, stopped_refuses, stopped_sees, word_some, writer_has, writer_keeps}
 use Rattle.lane_lock.proofs.Writes.{climbed_sees, first_pass, stopped_first, stopped_hand, stopped_pass, stopped_share}
 use Rattle.lane_lock.proofs.Writes.{stopped_stack, took_first}
@@ -11,7 +11,7 @@ use Rattle.lane_lock.proofs.lock.LaneLock.start_write.Goals as goal
 pub take_lane-found-requires-clause-table : goal.take_lane-found-requires-clause-table
 take_lane-found-requires-clause-table g c =
     let lock = c.args.self.now in
-    (c.requires.table, some_words lock c.args.pass.now c.requires, lock.sized.2)
+    let pass = c.args.pass.now in (c.requires.table, some_words lock pass c.requires, key_words lock pass c.requires)
 
 pub take_lane-found-requires-clause-pass : goal.take_lane-found-requires-clause-pass
 take_lane-found-requires-clause-pass g c = let stands = c.args.pass.now.stands in
@@ -62,7 +62,7 @@ take_upper-requires-clause-table g c = let lock = c.args.self.now in (
   c.in-Some.ensures.0 ∙ (c.take_lane-found.ensures.same_seat.0 ∙ c.requires.table),
   lock.few.0,
   lock.sized.0,
-  lock.sized.2,
+  key_words lock c.args.pass.now c.requires,
 )
 
 pub take_upper-requires-clause-pass : goal.take_upper-requires-clause-pass
