@@ -1,5 +1,5 @@
 -- A writer takes the lanes upwards, and puts them back downwards.
-use Rattle.std.proofs.Common.{true, ◌≡◌, ◌≢◌, inl, inr, ⊎_elim, ℕ, zero, suc, ◌+◌, ◌-◌, ◌<◌, ◌≤◌, List, ◌∷◌}
+use Rattle.std.proofs.Common.{true, false, ◌≡◌, ◌≢◌, inl, inr, ⊎_elim, ℕ, zero, suc, ◌+◌, ◌-◌, ◌<◌, ◌≤◌, List, ◌∷◌}
 use Rattle.std.proofs.Common.{length, drop}
 use Rattle.std.proofs.Common.{get_or, set, length-set, sym, refl, ap, ◌∙◌, subst, arith, Option, Some, None}
 use Rattle.std.proofs.Common.{get_or-set_same, get_or-set_other}
@@ -29,14 +29,14 @@ module _ {K E Z : Type 0} (hist : K → List E) (by : E → ℕ) where
   stacked h n x hand up below e s t =
       (x, e ∙ (λ i. (place (suc n), x) ∷ ap rest (sym e) i), s, subst (λ c. Stack (Shows hist h) n c below) (ap rest (sym e)) t)
 
-  shows_it : (v v' : View E) (k w : ℕ) (x : Option (Arc K Z)) → v.pin ≢ 0 → Takes hist by v k w x v'
+  shows_it : (v v' : View E) (k w : ℕ) (x : Option (Arc K Z)) → v.pin ≢ 0 → Takes false hist by v k w x v'
       → Shows hist v.seen x × (v' ≡ holding v k w)
   shows_it v v' k w None p t = (tt, t.0)
   shows_it v v' k w (Some a) p t = let same =
       t.3 p in (same, t.0 ∙ (λ i. record v { held = set v.held k w; seen = same i; pin = pin_kept v.pin (k + 1) p i }))
 
   pub climb_one : (m m' m'' : Mine K E Z) (w n : ℕ) (x : Option (Arc K Z)) → m.0.pin ≢ 0 → suc n < length m.0.held
-      → Climbed hist m w n m' → m''.1 ≡ (place (suc n), x) ∷ m'.1 → Takes hist by m'.0 (suc n) w x m''.0
+      → Climbed hist m w n m' → m''.1 ≡ (place (suc n), x) ∷ m'.1 → Takes false hist by m'.0 (suc n) w x m''.0
       → get_or m'.0.held (suc n) 0 ≡ 0
       → Climbed hist m w (suc n) m''
   climb_one m m' m'' w n x pin lt c hand takes blank =
@@ -73,7 +73,7 @@ module _ {K E Z : Type 0} (hist : K → List E) (by : E → ℕ) where
 
   pub climb_next : (m m' m'' : Mine K E Z) (w lane : ℕ) (x : Option (Arc K Z)) → 0 < lane → m.0.pin ≢ 0
       → lane < length m.0.held → Climbed hist m w (lane - 1) m' → m''.1 ≡ (place lane, x) ∷ m'.1
-      → Takes hist by m'.0 lane w x m''.0 → get_or m'.0.held lane 0 ≡ 0
+      → Takes false hist by m'.0 lane w x m''.0 → get_or m'.0.held lane 0 ≡ 0
       → Climbed hist m w ((lane + 1) - 1) m''
   climb_next m m' m'' w zero x some_lane pin lt c hand takes blank = absurd (omega arith)
   climb_next m m' m'' w (suc n) x some_lane pin lt c hand takes blank =

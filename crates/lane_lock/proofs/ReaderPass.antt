@@ -1,5 +1,5 @@
 -- A pass that reads, as its seat changes.
-use Rattle.std.proofs.Common.{◌≡◌, ◌≢◌, ℕ, ◌+◌, ◌-◌, ◌*◌, ◌<◌, true, false, List, [], ◌∷◌, length, get_or, set}
+use Rattle.std.proofs.Common.{◌≡◌, ◌≢◌, ℕ, ◌+◌, ◌-◌, ◌*◌, true, false, List, [], ◌∷◌, length, get_or, set}
 use Rattle.std.proofs.Common.{length-set, sym}
 use Rattle.std.proofs.Common.{append-nil, refl, ap, ◌∙◌, subst, arith, Option, Some, None, is_some, get_or-set_same}
 use Rattle.std.proofs.Common.{get_or-set_other}
@@ -16,10 +16,11 @@ use Rattle.lane_lock.specs.declared.pass.Pass.{Pass}
 use Rattle.lane_lock.specs.declared.table.View.{View}
 use Rattle.lane_lock.specs.Guards.{HasOneLane}
 use Rattle.lane_lock.specs.History.{StartsWith}
-use Rattle.lane_lock.specs.Outcomes.{KeepsHistory, KeepsLanes, OnlySees}
+use Rattle.lane_lock.specs.declared.refusal.NotNow.TheVariants.{Shared}
+use Rattle.lane_lock.specs.Outcomes.{KeepsHistory, KeepsLanes, OnlySees, RefusesRead}
 use Rattle.lane_lock.specs.Rule.{place}
 use Rattle.lane_lock.specs.Steps.{Mine, Offers, Takes}
-use Rattle.lane_lock.specs.Views.{IsLegal, freed, holding, pin_or, seeing}
+use Rattle.lane_lock.specs.Views.{IsLegal, found_empty, freed, holding, pin_or, seeing}
 use Rattle.lane_lock.proofs.Guards.{idle_if_free, in_front, top_is}
 use Rattle.lane_lock.proofs.PassKept.{Keeping, held_sized}
 use Rattle.lane_lock.proofs.Writes.{no_pin, zero_there}
@@ -29,31 +30,32 @@ pub odd_some : (n : ℕ) → 2 * n + 1 ≢ 0
 odd_some n z = omega arith
 
 -- the pass takes its lane by the word w
-module _ {K A S E : Type 0} {g : kept.Ghosts K A S E} (p : Pass K A S E g) (l w : ℕ) (own : l ≡ p.lane) (word : w ≢ 0)
-    (x : Option (Arc K Global)) (m1 m2 : Mine K E Global) (hand : m1.1 ≡ (place l, x) ∷ p.seat.me.1)
-    (takes : Takes g.history g.maker p.seat.me.0 l w x m1.0) (free : get_or p.seat.me.0.held l 0 ≡ 0) where
+module _ {K A S E : Type 0} {g : kept.Ghosts K A S E} (p : Pass K A S E g) (w : ℕ) (word : w ≢ 0)
+    (x : Option (Arc K Global)) (m1 m2 : Mine K E Global) (hand : m1.1 ≡ (place p.lane, x) ∷ p.seat.me.1)
+    (takes : Takes true g.history g.maker p.seat.me.0 p.lane w x m1.0)
+    (free : get_or p.seat.me.0.held p.lane 0 ≡ 0) where
   abbrev v : View E
   v = p.seat.me.0
 
+  abbrev l : ℕ
+  l = p.lane
+
   not_shared : is_some p.share ≡ false
-  not_shared = idle_if_free (is_some p.share) _ p.guarded (subst (λ (k : ℕ). get_or v.held k 0 ≡ 0) own free)
+  not_shared = idle_if_free (is_some p.share) _ p.guarded free
 
   unpinned : v.pin ≡ 0
   unpinned = no_pin _ _ p.pinned (p.idle not_shared).1
 
-  within : l < length v.held
-  within = subst (λ (k : ℕ). k < length v.held) (sym own) p.sized.0
-
   here : get_or (set v.held l w) l 0 ≢ 0
-  here z = word (sym (get_or-set_same v.held l w 0 within) ∙ z)
+  here z = word (sym (get_or-set_same v.held l w 0 p.sized.0) ∙ z)
 
   -- whose slot was empty
   module _ (top : m1.1 ≡ (place l, None) ∷ rest m1.1) (now : m2 ≡ (m1.0, (place l, None) ∷ rest m1.1)) where
-    empty : (m1.0 ≡ holding v l w) × (l ≢ 0)
-    empty = subst (λ (y : Option (Arc K Global)). Takes g.history g.maker v l w y m1.0)
+    empty : (m1.0 ≡ found_empty true (holding v l w) l) × (l ≢ 0)
+    empty = subst (λ (y : Option (Arc K Global)). Takes true g.history g.maker v l w y m1.0)
         (top_is (place l) x None m1.1 p.seat.me.1 (rest m1.1) hand top) takes
 
-    is : m2 ≡ (holding v l w, (place l, None) ∷ p.seat.me.1)
+    is : m2 ≡ (found_empty true (holding v l w) l, (place l, None) ∷ p.seat.me.1)
     is = now ∙ (λ i. (empty.0 i, (place l, None) ∷ ap rest hand i))
 
     pub empty_pass : (m2.0.stands ≡ true) × (get_or m2.0.held l 0 ≢ 0)
@@ -66,7 +68,7 @@ module _ {K A S E : Type 0} {g : kept.Ghosts K A S E} (p : Pass K A S E g) (l w 
     empty_offer = (None, in_front _ _ _ (ap (λ (u : Mine K E Global). u.1) is), empty.1)
 
     module _ (m3 : Mine K E Global) (back : m3 ≡ (freed m2.0 l 0, rest m2.1)) where
-      was : m3 ≡ (freed (holding v l w) l 0, p.seat.me.1)
+      was : m3 ≡ (freed (found_empty true (holding v l w) l) l 0, p.seat.me.1)
       was = back ∙ ap (λ (u : Mine K E Global). (freed u.0 l 0, rest u.1)) is
 
       lanes : KeepsLanes v m3.0
@@ -103,8 +105,17 @@ module _ {K A S E : Type 0} {g : kept.Ghosts K A S E} (p : Pass K A S E g) (l w 
         later = ([], h.seen ∙ sym (append-nil v.seen));
       }
 
-      pub empty_refuses : KeepsHistory v m3.0 × KeepsLanes v m3.0 × (m3.0.busy ≡ v.busy)
-      empty_refuses = (history, lanes, ap (λ (u : Mine K E Global). u.0.busy) was)
+      pub empty_refuses : RefusesRead v m3.0 l Shared
+      empty_refuses = (
+        history,
+        lanes,
+        record {
+          counted = ap (λ (u : Mine K E Global). u.0.empty) was;
+          noted = ap (λ (u : Mine K E Global). u.0.empty_lane) was;
+          upper = empty.1;
+        },
+        ap (λ (u : Mine K E Global). u.0.busy) was,
+      )
 
   -- whose slot had a share
   module _ (a : Arc K Global) (top : m1.1 ≡ (place l, Some a) ∷ rest m1.1)
@@ -112,8 +123,8 @@ module _ {K A S E : Type 0} {g : kept.Ghosts K A S E} (p : Pass K A S E g) (l w 
     abbrev seen : List E
     seen = g.history (arc_value a)
 
-    full : Takes g.history g.maker v l w (Some a) m1.0
-    full = subst (λ (y : Option (Arc K Global)). Takes g.history g.maker v l w y m1.0)
+    full : Takes true g.history g.maker v l w (Some a) m1.0
+    full = subst (λ (y : Option (Arc K Global)). Takes true g.history g.maker v l w y m1.0)
         (top_is (place l) x (Some a) m1.1 p.seat.me.1 (rest m1.1) hand top) takes
 
     shows : m2 ≡ (seeing v l w seen, (place l, None) ∷ p.seat.me.1)
@@ -138,7 +149,7 @@ module _ {K A S E : Type 0} {g : kept.Ghosts K A S E} (p : Pass K A S E g) (l w 
     }
 
     pub reader_has : HasOneLane g.history g.maker m2 p.lane (Some a)
-    reader_has = subst (λ (k : ℕ). HasOneLane g.history g.maker m2 k (Some a)) own record {
+    reader_has = record {
       there = refl;
       shows = sym shown;
       opened = subst (λ (z : List E × List E). StartsWith z.0 z.1)
@@ -164,5 +175,5 @@ module _ {K A S E : Type 0} {g : kept.Ghosts K A S E} (p : Pass K A S E g) (l w 
       idle = λ e. absurd (false≢true (sym e));
       pinned = λ n. subst (λ (k : ℕ). get_or m2.0.held (k - 1) 0 ≢ 0) (sym pin)
           (subst (λ (k : ℕ). get_or m2.0.held k 0 ≢ 0) at held);
-      guarded = λ e. subst (λ (k : ℕ). get_or m2.0.held k 0 ≢ 0) own held;
+      guarded = λ e. held;
     }

@@ -1,5 +1,5 @@
 -- What a writer has after it took all lanes, or met one held, and after it put them back.
-use Rattle.std.proofs.Common.{append-nil, ◌++◌, ◌≡◌, ◌≢◌, inl, inr, ℕ, zero, suc, ◌+◌, ◌-◌, ◌<◌, ◌≤◌, true, List, []}
+use Rattle.std.proofs.Common.{append-nil, ◌++◌, ◌≡◌, ◌≢◌, inl, inr, ℕ, zero, suc, ◌+◌, ◌-◌, ◌<◌, ◌≤◌, true, false, List, []}
 use Rattle.std.proofs.Common.{◌∷◌, length, drop, get_or, set, length-set, sym, refl, ap, ◌∙◌, subst, arith, Option}
 use Rattle.std.proofs.Common.{Some, None, get_or-set_same, get_or-set_other}
 use Rattle.std.proofs.Math.Seq.{drop-append_seam}
@@ -56,10 +56,10 @@ module _ {K E Z : Type 0} (hist : K → List E) (by : E → ℕ) where
     pub opened : StartsWith (hist (arc_value a)) m.0.opening
 
   pub took_first : (m m' m'' : Mine K E Z) (w : ℕ) (x : Option (Arc K Z)) (a : Arc K Z) → m'.1 ≡ (0, x) ∷ m.1
-      → Takes hist by m.0 0 w x m'.0 → m'.1 ≡ (0, Some a) ∷ rest m'.1
+      → Takes false hist by m.0 0 w x m'.0 → m'.1 ≡ (0, Some a) ∷ rest m'.1
       → m'' ≡ (m'.0, (0, None) ∷ rest m'.1) → get_or m.0.held 0 0 ≡ 0 → TookFirst m w a m''
   took_first m m' m'' w x a hand takes top now free =
-      let t = subst (λ (y : Option (Arc K Z)). Takes hist by m.0 0 w y m'.0)
+      let t = subst (λ (y : Option (Arc K Z)). Takes false hist by m.0 0 w y m'.0)
       (top_is 0 x (Some a) m'.1 m.1 (rest m'.1) hand top) takes in
       record {
         is = now ∙ (λ i. (t.0 i, (0, None) ∷ ap rest hand i));

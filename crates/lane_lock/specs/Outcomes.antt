@@ -42,11 +42,18 @@ module _ {E : Type 0} where
     pub among : holder < v.passes
     pub own : holder ≡ v.number → slice_index v.held lane ≢ 0
 
-  -- a read was refused: its lane was held, or empty
+  -- one more take to read met a slot that was empty: this lane's, which isn't lane 0
+  pub record MetEmpty (v w : View E) (lane : ℕ) : Type 0 where
+    pub counted : w.empty ≡ v.empty + 1
+    pub noted : w.empty_lane ≡ lane
+    pub upper : lane ≢ 0
+
+  -- a read was refused: its lane was met held, or its slot empty
   abbrev pub RefusesRead : View E → View E → ℕ → NotNow → Type 0
   RefusesRead v w lane (refusal.Busy b) =
       KeepsHistory v w × KeepsLanes v w × (b.lane ≡ lane) × MetHeld v w lane b.holder.0
-  RefusesRead v w lane Shared = KeepsHistory v w × KeepsLanes v w × (w.busy ≡ v.busy)
+      × (w.empty ≡ v.empty)
+  RefusesRead v w lane Shared = KeepsHistory v w × KeepsLanes v w × MetEmpty v w lane × (w.busy ≡ v.busy)
 
   -- a write was refused: a lane was held, and all lanes that were taken are home again
   abbrev pub RefusesWrite : View E → View E → ℕ → Busy → Type 0

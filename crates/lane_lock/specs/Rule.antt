@@ -93,6 +93,8 @@ newcomer p opening passes lanes others = record {
   busy = 0;
   lane = 0;
   word = 0;
+  empty = 0;
+  empty_lane = 0;
 }
 
 -- the view of the first seat: the last pass, and all others before it

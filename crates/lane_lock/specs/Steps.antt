@@ -1,5 +1,5 @@
 -- What each step on the table asks, and what it tells the seat that makes it.
-use Rattle.std.specs.Prelude.{◌≡◌, ◌≢◌, ℕ, ◌-◌, ◌<◌, List, [], ◌∷◌, ◌++◌, slice_index}
+use Rattle.std.specs.Prelude.{◌≡◌, ◌≢◌, ℕ, Bool, ◌-◌, ◌<◌, List, [], ◌∷◌, ◌++◌, slice_index}
 use Rattle.std.specs.Prelude.{slice_set, Option, Some, None}
 use Rattle.std.specs.Arc.{arc_value}
 use Rattle.std.specs.declared.sync.Arc.{Arc}
@@ -8,7 +8,7 @@ use Rattle.atomic_table.specs.Table.{Me, rest}
 use Rattle.lane_lock.specs.declared.table.View.{View}
 use Rattle.lane_lock.specs.History.{StartsWith}
 use Rattle.lane_lock.specs.Rule.{Names, place}
-use Rattle.lane_lock.specs.Views.{holding, seeing, freed, written, noted, IsLegal}
+use Rattle.lane_lock.specs.Views.{holding, seeing, freed, written, noted, found_empty, IsLegal}
 
 -- what a seat knows, and the slots that it has taken, the last one in front
 abbrev pub Mine : Type 0 → Type 0 → Type 0 → Type 0
@@ -19,21 +19,21 @@ abbrev pub SameSeat : {S V : Type 0} → Seat S V → Seat S V → Type 0
 SameSeat old new = (new.table_id ≡ old.table_id) × (new.id ≡ old.id)
 
 module _ {K E Z : Type 0} where
-  -- A lane was taken whose slot has x. With a share its history is seen, which begins with the opening one and is legal
-  -- for the pass; if a lane pins what it has seen, it has seen it all before.
-  abbrev pub Takes : (K → List E) → (E → ℕ) → View E → ℕ → ℕ → Option (Arc K Z) →
-      View E → Type 0
-  Takes hist by v k w None v' = (v' ≡ holding v k w) × (k ≢ 0)
-  Takes hist by v k w (Some a) v' =
+  -- A lane was taken, to read or to write, whose slot has x. With a share its history is seen, which begins with the
+  -- opening one and is legal for the pass; if a lane pins what it has seen, it has seen it all before. Lane 0 always has
+  -- one.
+  abbrev pub Takes : Bool → (K → List E) → (E → ℕ) → View E → ℕ → ℕ → Option (Arc K Z) → View E → Type 0
+  Takes reads hist by v k w None v' = (v' ≡ found_empty reads (holding v k w) k) × (k ≢ 0)
+  Takes reads hist by v k w (Some a) v' =
       (v' ≡ seeing v k w (hist (arc_value a))) × StartsWith (hist (arc_value a)) v.seen × IsLegal by v'
       × (v.pin ≢ 0 → hist (arc_value a) ≡ v.seen) × StartsWith (hist (arc_value a)) v.opening
 
   -- Taking lane k by the word w, to read or to write. At 0 it was at home, and the pass has it and what its slot had; at
   -- another word it was held, and the pass notes that. The word names a pass of the lock, and this pass only if it held
   -- the lane.
-  abbrev pub took : (K → List E) → (E → ℕ) → ℕ → ℕ → Mine K E Z → ℕ → Mine K E Z → Type 0
-  took hist by k w m r m' =
-      (r ≡ 0 → (x : Option (Arc K Z)) × (m'.1 ≡ (place k, x) ∷ m.1) × Takes hist by m.0 k w x m'.0
+  abbrev pub took : Bool → (K → List E) → (E → ℕ) → ℕ → ℕ → Mine K E Z → ℕ → Mine K E Z → Type 0
+  took reads hist by k w m r m' =
+      (r ≡ 0 → (x : Option (Arc K Z)) × (m'.1 ≡ (place k, x) ∷ m.1) × Takes reads hist by m.0 k w x m'.0
       × (slice_index m.0.held k ≡ 0))
       × (r ≢ 0 → (m' ≡ (noted m.0 k r, m.1)) × ((q : ℕ) × (q < 1024) × Names q r)
       × (Names m.0.number r → slice_index m.0.held k ≡ r) × ((q : ℕ) → Names q r → q < m.0.passes))

@@ -1,6 +1,6 @@
 -- What a step makes of the view of the seat that makes it.
-use Rattle.std.specs.Prelude.{◌≡◌, ◌≢◌, ℕ, ◌+◌, true, false, List, [], ◌∷◌, ◌++◌, length}
-use Rattle.std.specs.Prelude.{drop, replicate, slice_index}
+use Rattle.std.specs.Prelude.{◌≡◌, ◌≢◌, ℕ, ◌+◌, Bool, true, false, if◌then◌else◌, List, []}
+use Rattle.std.specs.Prelude.{◌∷◌, ◌++◌, length, drop, replicate, slice_index}
 use Rattle.std.specs.Prelude.{slice_set, zero, suc}
 use mathlib.Core.Option.{some}
 use lib.ListN.{get_elem?}
@@ -35,6 +35,13 @@ module _ {E : Type 0} where
   abbrev pub noted : View E → ℕ → ℕ → View E
   noted v k w = record v { busy = v.busy + 1; lane = k; word = w }
 
+  -- lane k was taken and its slot was empty, which a reader notes
+  abbrev pub found_empty : Bool → View E → ℕ → View E
+  found_empty reads v k = record v {
+    empty = if reads then v.empty + 1 else v.empty;
+    empty_lane = if reads then k else v.empty_lane;
+  }
+
   -- of the records after the opening that the view has seen, those of its pass are those that it made
   abbrev pub IsLegal : (E → ℕ) → View E → Type 0
   IsLegal by v = made_by by v.number (drop (length v.opening) v.seen) ≡ v.made
@@ -62,6 +69,8 @@ module _ {E : Type 0} where
     busy = 0;
     lane = 0;
     word = 0;
+    empty = 0;
+    empty_lane = 0;
   }
 
   -- the first of these passes, alone in a view
@@ -80,6 +89,8 @@ module _ {E : Type 0} where
     busy = 0;
     lane = 0;
     word = 0;
+    empty = 0;
+    empty_lane = 0;
   }
 
   -- the view without its first further pass, and that pass alone

@@ -1,6 +1,6 @@
 //! What each kind of step on the table tells the seat that makes it.
 
-ghost use Rattle.std.specs.Prelude.{[]};
+ghost use Rattle.std.specs.Prelude.{[], true, false};
 ghost use Rattle.lane_lock.specs.Rule.{lane_at};
 ghost use Rattle.lane_lock.specs.Steps.{took, ended, returned, committed};
 ghost use Rattle.lane_lock.specs.Views.{without_one, first_alone, note, note_of, learned, gathered};
@@ -10,13 +10,22 @@ use crate::table::{Share, View};
 use atomic_table::{Join, Play, Split};
 use std::marker::PhantomData;
 
-// A lane is taken, to read or to write, or found held.
-pub(crate) struct Take<K> {
+// A lane is taken to read, or found held.
+pub(crate) struct TakeToRead<K> {
     kept: PhantomData<K>,
 }
 
-impl<K: Kept> Play<Option<Share<K>>, View<K::Record>> for Take<K> {
-    ghost then = { λ step. took K.history K.maker (lane_at step.word) step.second };
+impl<K: Kept> Play<Option<Share<K>>, View<K::Record>> for TakeToRead<K> {
+    ghost then = { λ step. took true K.history K.maker (lane_at step.word) step.second };
+}
+
+// A lane is taken to write, or found held.
+pub(crate) struct TakeToWrite<K> {
+    kept: PhantomData<K>,
+}
+
+impl<K: Kept> Play<Option<Share<K>>, View<K::Record>> for TakeToWrite<K> {
+    ghost then = { λ step. took false K.history K.maker (lane_at step.word) step.second };
 }
 
 // A lane is put back, and none pins what was seen any more.

@@ -10,7 +10,7 @@ use crate::kept::Kept;
 use crate::lock::LaneLock;
 use crate::pass::Pass;
 use crate::refusal::{Busy, NotNow};
-use crate::steps::{exchange, put_back_last, put_back_with, take_lane};
+use crate::steps::{exchange, put_back_last, put_back_with, take_to_read};
 use iofd_words::PassNo;
 
 // The pass that a lane's word names.
@@ -32,7 +32,7 @@ impl<K: Kept> LaneLock<K> {
     {
         let lanes = &self.table.shared;
         let word = 2 * u64::from(pass.number) + 1;
-        let found = take_lane(lanes, &mut pass.seat, pass.lane, word);
+        let found = take_to_read(lanes, &mut pass.seat, pass.lane, word);
         if found != 0 {
             return Err(NotNow::Busy(Busy {
                 lane: pass.lane,

@@ -1,6 +1,6 @@
 //! The steps on the table, each by a pass's own seat. There are no others.
 
-ghost use Rattle.std.specs.Prelude.{◌≡◌, ◌≢◌, ℕ, ◌+◌, ◌-◌, ◌*◌, ◌<◌, ◌⊎◌, true};
+ghost use Rattle.std.specs.Prelude.{◌≡◌, ◌≢◌, ℕ, ◌+◌, ◌-◌, ◌*◌, ◌<◌, true, false};
 ghost use Rattle.std.specs.Prelude.{[], ◌∷◌, length, slice_index};
 ghost use Rattle.atomic_table.specs.Table.{rest};
 ghost use Rattle.lane_lock.specs.Rule.{place};
@@ -8,12 +8,11 @@ ghost use Rattle.lane_lock.specs.Steps.{SameSeat, took, Offers, IsShare, committ
 ghost use Rattle.lane_lock.specs.Views.{freed, HasApart, IsBlank, without_one, first_alone, note, learned, gathered};
 
 use crate::kept::Kept;
-use crate::plays::{Commit, Deal, End, Gather, Learn, Return, Take, Tell};
+use crate::plays::{Commit, Deal, End, Gather, Learn, Return, TakeToRead, TakeToWrite, Tell};
 use crate::table::{PassSeat, Share, SharedLanes, place};
 
-// Takes a lane for the pass, by its word, to read or to write. The answer is 0 where it was at home, and else the
-// word found.
-pub(crate) fn take_lane<K: Kept>(
+// Takes a lane for the pass to read, by its word. The answer is 0 where it was at home, and else the word found.
+pub(crate) fn take_to_read<K: Kept>(
     lanes: &SharedLanes<K>,
     seat: &mut PassSeat<K>,
     lane: u16,
@@ -21,12 +20,27 @@ pub(crate) fn take_lane<K: Kept>(
 ) -> u64
     requires table { (seat.old.table_id ≡ lanes.now.table_id) × (place lane < lanes.now.table_id.words)
         × (place lanes.now.key.lanes ≡ lanes.now.table_id.words) }
-    requires pass { (seat.old.me.0.stands ≡ true)
-        × ((word ≡ 2 * seat.old.me.0.number + 1) ⊎ (word ≡ 2 * seat.old.me.0.number + 2)) }
+    requires pass { (seat.old.me.0.stands ≡ true) × (word ≡ 2 * seat.old.me.0.number + 1) }
     ensures same_seat { SameSeat seat.old seat.new }
-    ensures told { took K.history K.maker lane word seat.old.me result seat.new.me }
+    ensures told { took true K.history K.maker lane word seat.old.me result seat.new.me }
 {
-    lanes.compare_exchange::<Take<K>>(seat, place(lane), 0, word)
+    lanes.compare_exchange::<TakeToRead<K>>(seat, place(lane), 0, word)
+}
+
+// The same to write.
+pub(crate) fn take_to_write<K: Kept>(
+    lanes: &SharedLanes<K>,
+    seat: &mut PassSeat<K>,
+    lane: u16,
+    word: u64,
+) -> u64
+    requires table { (seat.old.table_id ≡ lanes.now.table_id) × (place lane < lanes.now.table_id.words)
+        × (place lanes.now.key.lanes ≡ lanes.now.table_id.words) }
+    requires pass { (seat.old.me.0.stands ≡ true) × (word ≡ 2 * seat.old.me.0.number + 2) }
+    ensures same_seat { SameSeat seat.old seat.new }
+    ensures told { took false K.history K.maker lane word seat.old.me result seat.new.me }
+{
+    lanes.compare_exchange::<TakeToWrite<K>>(seat, place(lane), 0, word)
 }
 
 // Exchanges what the slot has of the lane that was taken last.

@@ -44,6 +44,9 @@ pub struct View<E> {
     pub busy: u64,
     pub lane: u64,
     pub word: u64,
+    /// How many takes to read found a slot empty, and the last such lane.
+    pub empty: u64,
+    pub empty_lane: u64,
 }
 
 /// What the rule reads: the number of lanes and of passes, and the opening value.

@@ -11,7 +11,7 @@ ghost use Rattle.lane_lock.specs.Steps.{SameSeat};
 use crate::kept::Kept;
 use crate::read::holder_of;
 use crate::refusal::Busy;
-use crate::steps::{exchange, put_back_pinned, take_lane};
+use crate::steps::{exchange, put_back_pinned, take_to_write};
 use crate::table::{PassSeat, Share, SharedLanes};
 use std::sync::Arc;
 
@@ -33,7 +33,7 @@ pub(crate) fn take_upper<K: Kept>(
         (b.lane < count) × Stops K.history seat.old.me word b seat.new.me) }
 {
     for lane in 1..count {
-        let found = take_lane(lanes, seat, lane, word);
+        let found = take_to_write(lanes, seat, lane, word);
         if found != 0 {
             return Some(Busy {
                 lane,

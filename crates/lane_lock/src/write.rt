@@ -17,7 +17,7 @@ use crate::lock::LaneLock;
 use crate::pass::Pass;
 use crate::read::holder_of;
 use crate::refusal::{Busy, CommitError};
-use crate::steps::{exchange, put_back_with, put_back_with_record, take_lane};
+use crate::steps::{exchange, put_back_with, put_back_with_record, take_to_write};
 use crate::table::{PassSeat, Share, SharedLanes};
 use crate::upper_lanes::{drop_shares, put_back_upper, refill, take_upper};
 use iofd_words::PassNo;
@@ -114,7 +114,7 @@ impl<K: Kept> LaneLock<K> {
     {
         let lanes = &self.table.shared;
         let word = 2 * u64::from(pass.number) + 2;
-        let found = take_lane(lanes, &mut pass.seat, 0, word);
+        let found = take_to_write(lanes, &mut pass.seat, 0, word);
         if found != 0 {
             return Err(Busy {
                 lane: 0,
