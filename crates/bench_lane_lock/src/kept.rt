@@ -37,6 +37,8 @@ impl Kept for Entries {
 
     ghost gives = { λ _ _ _ _ _. Unit {0} };
 
+    ghost wants = { λ _ _. Unit {0} };
+
     fn apply(&mut self, pass: PassNo, _act: &()) -> Result<(), NoMemory> {
         match self.entries.push(pass) {
             Ok(()) => Ok(()),

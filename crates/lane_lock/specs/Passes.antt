@@ -6,6 +6,9 @@ use Rattle.std.specs.declared.alloc.Global.{Global}
 use Rattle.lane_lock.specs.declared.kept.Kept as kept
 use Rattle.lane_lock.specs.declared.lock.LaneLock.{LaneLock}
 use Rattle.lane_lock.specs.declared.pass.Pass.{Pass}
+use Rattle.lane_lock.specs.declared.refusal.CommitError.{CommitError}
+use Rattle.lane_lock.specs.declared.refusal.CommitError.TheVariants.{Shared}
+use Rattle.lane_lock.specs.declared.refusal.CommitError.TheVariants as refusal
 use Rattle.lane_lock.specs.declared.table.View.{View}
 use Rattle.lane_lock.specs.Guards.{HasOneLane, HasAllLanes}
 use Rattle.lane_lock.specs.Outcomes.{Appends}
@@ -20,6 +23,11 @@ lanes_of lock = lock.lanes
 
 abbrev pub passes_of : {K A S E : Type 0} → LaneLock K A S E → ℕ
 passes_of lock = lock.passes
+
+-- an act that failed so on the value: where it was for want of memory, memory may be wanting there
+abbrev pub MayWant : {K A : Type 0} → (K → A → Type 0) → K → A → CommitError → Type 0
+MayWant wants value act (refusal.Memory error) = wants value act
+MayWant wants value act Shared = Unit {0}
 
 module _ {K A S E : Type 0} {g : kept.Ghosts K A S E} where
   -- what the pass has seen and made, and which lanes it holds

@@ -31,13 +31,17 @@ pub trait Kept: Drop {
     /// What an applied act does: the value before, the pass, the act, its stamp and the value after.
     ghost gives: { Self → ℕ → Self.Act → Self.Stamp → Self → Type 0 };
 
-    /// Applies an act for the pass, and so appends one record of this pass to the history. NoMemory changes nothing
-    /// of it.
+    /// Where memory may be wanting to apply an act: the value before, and the act.
+    ghost wants: { Self → Self.Act → Type 0 };
+
+    /// Applies an act for the pass, and so appends one record of this pass to the history. NoMemory comes only where
+    /// memory may be wanting, and changes nothing of the history.
     fn apply(&mut self, pass: PassNo, act: &Self::Act) -> Result<Self::Stamp, NoMemory>
         requires { may self.old act.now }
         ensures record { IfOk result (λ _. (r : Self.Record) × (history self.new ≡ history self.old ++ r ∷ [])
             × (maker r ≡ pass.0)) }
         ensures gives { IfOk result (λ stamp. gives self.old pass.0 act.now stamp self.new) }
+        ensures memory { OnErr result (wants self.old act.now) }
         ensures err { OnErr result (history self.new ≡ history self.old) };
 
     /// How many records the history has.

@@ -7,7 +7,7 @@ ghost use Rattle.std.specs.Arc.{arc_value};
 ghost use Rattle.atomic_table.specs.Table.{rest};
 ghost use Rattle.lane_lock.specs.Hands.{AllBack, Anything, Stack};
 ghost use Rattle.lane_lock.specs.Outcomes.{OnlySees, KeepsHistory, RefusesWrite};
-ghost use Rattle.lane_lock.specs.Passes.{Owns, SamePass, IsWriting, ShowsValue, Commits, view_of};
+ghost use Rattle.lane_lock.specs.Passes.{Owns, SamePass, IsWriting, MayWant, ShowsValue, Commits, view_of};
 ghost use Rattle.lane_lock.specs.Rule.{place};
 ghost use Rattle.lane_lock.specs.Views.{IsBlank};
 ghost use Rattle.lane_lock.specs.Steps.{SameSeat};
@@ -35,6 +35,7 @@ fn apply_alone<K: Kept>(
         × (K.maker r ≡ pass.0)) }
     ensures gives { IfOk result (λ stamp.
         K.gives (arc_value share.old) pass.0 act.now stamp (arc_value share.new)) }
+    ensures memory { IfErr result (MayWant K.wants (arc_value share.old) act.now) }
     ensures err { OnErr result (K.history (arc_value share.new) ≡ K.history (arc_value share.old)) }
 {
     let Some(value) = Arc::get_mut(share) else {
@@ -164,6 +165,8 @@ impl<K: Kept> LaneLock<K> {
         ensures same { SamePass pass.old pass.new }
         ensures blank { IsBlank (view_of pass.new) }
         ensures commits { IfOk result (λ stamp. Commits pass.old act.now stamp pass.new) }
+        ensures memory { IfErr result (λ error. (value : K) × ShowsValue pass.old value
+            × MayWant K.wants value act.now error) }
         ensures err { OnErr result (KeepsHistory (view_of pass.old) (view_of pass.new)) }
     {
         let lanes = &self.table.shared;

@@ -38,7 +38,7 @@ impl<K: Kept> Pass<K> {
 }
 
 impl<'a, K: Kept> WriteGuard<'a, K> {
-    ghost use Rattle.std.specs.Prelude.{◌≡◌, length, IfOk, OnErr};
+    ghost use Rattle.std.specs.Prelude.{◌≡◌, length, IfOk, IfErr, OnErr};
     ghost use Rattle.lane_lock.specs.History.{Legal, StartsWith};
     ghost use Rattle.lane_lock.specs.Outcomes.{KeepsHistory};
     ghost use Rattle.lane_lock.specs.Passes.{
@@ -46,6 +46,7 @@ impl<'a, K: Kept> WriteGuard<'a, K> {
       IsWriting,
       ShowsValue,
       Commits,
+      MayWant,
       view_of,
       number_of,
       opening_of,
@@ -70,14 +71,16 @@ impl<'a, K: Kept> WriteGuard<'a, K> {
     }
 
     /// Applies the act to the value, and so appends one record of the pass to the history; then all lanes are put
-    /// back. Without a record, and with the same history, where the act wants memory (Memory) or a share of the
-    /// value is still held elsewhere (Shared).
+    /// back. Without a record, and with the same history, where the act wants memory (Memory), which comes only where
+    /// the kept type says that it may be wanting, or a share of the value is still held elsewhere (Shared).
     pub fn commit(self, act: &K::Act) -> Result<K::Stamp, CommitError>
         requires writing { IsWriting self.lock.now self.pass.now }
         requires may { (value : K) → ShowsValue self.pass.now value → K.may value act.now }
         ensures same_pass { SamePass self.entry.pass.now self.exit.1.0.now }
         ensures blank { IsBlank (view_of self.exit.1.0.now) }
         ensures commits { IfOk result (λ stamp. Commits self.entry.pass.now act.now stamp self.exit.1.0.now) }
+        ensures memory { IfErr result (λ error. (value : K) × ShowsValue self.entry.pass.now value
+            × MayWant K.wants value act.now error) }
         ensures err { OnErr result (KeepsHistory (view_of self.entry.pass.now) (view_of self.exit.1.0.now)) }
     {
         let WriteGuard { lock, pass } = self;

@@ -74,6 +74,7 @@ impl<A: Allocator + Copy> Kept for KeptCore<A> {
 
     ghost use Rattle.std.specs.Prelude.{IsTrue};
     ghost use Rattle.iommufd_core.specs.History.{may_apply};
+    ghost use Rattle.iommufd_core.specs.Server.{MayWant};
     ghost use Rattle.shared_iommufd.specs.Entries.{maker_of, told};
     ghost use Rattle.shared_iommufd.specs.Applied.{IsApplied};
 
@@ -89,6 +90,8 @@ impl<A: Allocator + Copy> Kept for KeptCore<A> {
 
     ghost gives = { λ before pass act stamp after.
         IsApplied (record { 0 = pass }) act stamp before.core.history after.core.history };
+
+    ghost wants = { λ it act. MayWant it.core act.event };
 
     fn apply(&mut self, pass: PassNo, act: &Act<A>) -> Result<Stamp, NoMemory> {
         self.core.apply(pass, act)

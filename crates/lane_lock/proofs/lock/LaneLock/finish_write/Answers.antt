@@ -148,3 +148,8 @@ pub returns-in-Err-clause-err : goal.returns-in-Err-clause-err
 returns-in-Err-clause-err g c = let was = c.drop_shares.ensures.view in
     back_history c.args.pass.now c.drop_shares.new.seat.me c.put_back_emptied.new.seat.me
     c.drop_shares.new.seat.me.0.seen was c.put_back_emptied.ensures.back (ap (λ v. v.seen) was)
+
+pub returns-in-Err-clause-memory : goal.returns-in-Err-clause-memory
+returns-in-Err-clause-memory g c = let held : c.args.pass.now.share ≡ Some c.in-Some.share =
+    sym c.take.ensures.value ∙ c.in-Some.is in
+    (arc_value c.in-Some.share, (c.in-Some.share, held, refl), c.in-Err.ensures.memory)
