@@ -1,6 +1,8 @@
 //! The value that the tests keep under a lock: numbers, each with the pass that added it, as many as there is room
 //! for.
 
+ghost use Rattle.std.specs.Prelude.{◌≤◌, vec_capacity};
+
 use iofd_words::{NoMemory, PassNo};
 use lane_lock::Kept;
 use std::alloc::{AllocError, Global};
@@ -15,6 +17,7 @@ pub struct Entry {
 pub struct Numbers {
     pub entries: Vec<Entry>,
     room: usize,
+    ghost reserved: { room ≤ vec_capacity entries },
 }
 
 impl Numbers {
@@ -56,7 +59,7 @@ impl Kept for Numbers {
 
     type Record = Entry;
 
-    ghost use Rattle.std.specs.Prelude.{◌≡◌, ◌++◌, ◌∷◌, [], length};
+    ghost use Rattle.std.specs.Prelude.{◌≡◌, ◌≤◌, ◌++◌, ◌∷◌, [], length};
 
     ghost history = { λ it. it.entries.items };
 
@@ -72,18 +75,18 @@ impl Kept for Numbers {
         × (after.entries.items
         ≡ before.entries.items ++ record { pass = record { 0 = pass }; number = number } ∷ []) };
 
+    ghost wants = { λ it _. it.room ≤ length it.entries.items };
+
     fn apply(&mut self, pass: PassNo, number: &u64) -> Result<u64, NoMemory> {
         let at = self.entries.len() as u64;
         if self.entries.len() >= self.room {
             return Err(NoMemory);
         }
-        match self.entries.push(Entry {
+        self.entries.push_reserved(Entry {
             pass,
             number: *number,
-        }) {
-            Ok(()) => Ok(at),
-            Err(_) => Err(NoMemory),
-        }
+        });
+        Ok(at)
     }
 
     fn len(&self) -> u64 {
