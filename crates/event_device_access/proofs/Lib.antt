@@ -1,4 +1,5 @@
 pub mod ByWalk
 pub mod DeviceReads
 pub mod DeviceWrites
+pub mod Translated
 pub mod Walked

@@ -17,6 +17,7 @@ use Rattle.iofd_words.specs.declared.event.Event.{Event}
 use Rattle.iofd_words.specs.declared.event.Event.TheVariants as event
 use Rattle.iofd_words.specs.declared.fault.AccessKind.TheVariants.{Read, Write}
 use Rattle.iofd_words.specs.declared.numbers.DeviceNo.{DeviceNo}
+use Rattle.iofd_words.specs.declared.numbers.FrameNo.{FrameNo}
 use Rattle.iofd_words.specs.declared.numbers.Iova.{Iova}
 use Rattle.iofd_words.specs.declared.query.Answer.{Answer}
 use Rattle.iofd_words.specs.declared.query.Answer.TheVariants as answer
@@ -94,17 +95,14 @@ record_told at w r told lawful is =
 
 -- ---- what a look tells it
 
-told_of_look : {A : Type 0} (settings : Settings) (records : List (Record A)) (query : Query) (said : Answer)
-    (told : DeviceAnswer) → Contains (answers_to settings records query) said
-    → answer_of_look query said ≡ Some told → Allows (world_of settings records) told
+-- a read at a kept frame is answered as the policy allows a read
+pub cached_allowed : {A : Type 0} (settings : Settings) (records : List (Record A)) (device : DeviceNo) (iova : Iova)
+    (len : ℕ) (frame : FrameNo) (said : Answer)
+    → Contains (answers_to settings records (CachedRead device iova len frame)) said
+    → Contains (answers_to settings records (DeviceRead device iova len)) said
 unfolding answers_in
-told_of_look settings records (DeviceRead device iova len) said told has is =
-    let same : OfRead device iova len said ≡ told = cc in
-    subst (λ (t : DeviceAnswer). Allows (world_of settings records) t) same has
-told_of_look settings records (CachedRead device iova len frame) said told has is =
-    let same : OfRead device iova len said ≡ told = cc in
-    subst (λ (t : DeviceAnswer). Allows (world_of settings records) t) same
-    (by_cause (first_true (access_checks (view (world_of settings records)) device iova len)) has)
+cached_allowed settings records device iova len frame said has =
+    by_cause (first_true (access_checks (view (world_of settings records)) device iova len)) has
   where
     passed : (b : Bool) → list_any (is_pass_at frame) (outcomes (world_of settings records) device iova.0 Read) ≡ b
         → Contains (cond b (answer.Read
@@ -131,6 +129,18 @@ told_of_look settings records (CachedRead device iova len frame) said told has i
     by_cause (Some cause) has = has
     by_cause None has =
         passed (list_any (is_pass_at frame) (outcomes (world_of settings records) device iova.0 Read)) refl has
+
+told_of_look : {A : Type 0} (settings : Settings) (records : List (Record A)) (query : Query) (said : Answer)
+    (told : DeviceAnswer) → Contains (answers_to settings records query) said
+    → answer_of_look query said ≡ Some told → Allows (world_of settings records) told
+unfolding answers_in
+told_of_look settings records (DeviceRead device iova len) said told has is =
+    let same : OfRead device iova len said ≡ told = cc in
+    subst (λ (t : DeviceAnswer). Allows (world_of settings records) t) same has
+told_of_look settings records (CachedRead device iova len frame) said told has is =
+    let same : OfRead device iova len said ≡ told = cc in
+    subst (λ (t : DeviceAnswer). Allows (world_of settings records) t) same
+    (cached_allowed settings records device iova len frame said has)
 told_of_look settings records query said told has is = cc
 
 -- ---- each step

@@ -32,6 +32,7 @@ use Rattle.iofd_interleavings.proofs.KeepsSound.{IsGood, nothing_cached, steps_g
 use Rattle.iofd_interleavings.proofs.OneUser.{one_user_of}
 use Rattle.iofd_interleavings.proofs.Passes.{entry_passes}
 use Rattle.iofd_interleavings.proofs.StaysSound.{sound_stays}
+use Rattle.iofd_interleavings.proofs.Walks.{run_fills}
 
 -- ---- what a step gives out
 
@@ -153,4 +154,5 @@ every_interleaving {A = A} = record {
   passes = λ settings records device entries iova len kind entry run sound hit.
       entry_passes settings records device entry iova len kind run (sound entry hit.cached) hit.page hit.right
       hit.inside;
+  fills = λ settings records device address t run found. run_fills settings records device address t run found;
 }

@@ -7,3 +7,4 @@ pub mod RunsAreSteps
 pub mod StaysAttached
 pub mod StaysCovered
 pub mod StaysSound
+pub mod Walks

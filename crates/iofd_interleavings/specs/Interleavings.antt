@@ -5,15 +5,19 @@ use Rattle.iofd_words.specs.Look.{passes_in}
 use Rattle.iofd_words.specs.Run.{IsRun, world_of}
 use Rattle.iofd_words.specs.Settings.{Settings}
 use Rattle.iofd_words.specs.Turns.{turns_of}
+use Rattle.iofd_words.specs.View.{view}
+use Rattle.iofd_words.specs.Walk.{translation}
 use Rattle.iofd_words.specs.declared.fault.AccessKind.{AccessKind}
 use Rattle.iofd_words.specs.declared.numbers.DeviceNo.{DeviceNo}
 use Rattle.iofd_words.specs.declared.numbers.FrameNo.{FrameNo}
 use Rattle.iofd_words.specs.declared.numbers.Iova.{Iova}
+use Rattle.iofd_words.specs.declared.query.Translation.{Translation}
 use Rattle.iofd_words.specs.declared.record.Record.{Record}
 use Rattle.iofd_interleavings.specs.Caches.{Entry, Sound}
 use Rattle.iofd_interleavings.specs.DeviceAnswers.{Allows, DeviceAnswer, device_answer}
 use Rattle.iofd_interleavings.specs.FramesApart.{FramesApart, GivesOut, IsNobodys}
-use Rattle.iofd_interleavings.specs.Steps.{AreSteps, IsHit, Step, caches_after, records_after, world_after}
+use Rattle.iofd_interleavings.specs.Steps.{AreSteps, IsFill, IsHit, Step, caches_after, filled_by, records_after}
+use Rattle.iofd_interleavings.specs.Steps.{world_after}
 
 -- `before ++ step ∷ later` is a list of steps, and `step` is made in the world that `before` leaves
 pub record EveryInterleaving (A : Type 0) : Type 0 where
@@ -48,3 +52,7 @@ pub record EveryInterleaving (A : Type 0) : Type 0 where
       (iova : Iova) (len : ℕ) (kind : AccessKind) (entry : Entry) → IsRun settings records
       → Sound (world_of settings records) device entries → IsHit entries iova len kind entry
       → IsTrue (passes_in (world_of settings records) device iova len kind entry.frame)
+  -- 8. of any run: what a walk finds for a device is a translation that its cache may be filled with
+  pub fills : (settings : Settings) (records : List (Record A)) (device : DeviceNo) (address : ℕ) (t : Translation)
+      → IsRun settings records → translation (view (world_of settings records)) device address ≡ Some t
+      → IsFill (world_of settings records) device (filled_by address t)

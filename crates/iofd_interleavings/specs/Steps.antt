@@ -17,6 +17,7 @@ use Rattle.iofd_words.specs.declared.numbers.Iova.{Iova}
 use Rattle.iofd_words.specs.declared.numbers.PassNo.{PassNo}
 use Rattle.iofd_words.specs.declared.query.Answer.{Answer}
 use Rattle.iofd_words.specs.declared.query.Query.{Query}
+use Rattle.iofd_words.specs.declared.query.Translation.{Translation}
 use Rattle.iofd_words.specs.declared.record.Record.{Record}
 use Rattle.iofd_words.specs.declared.reply.Reply.TheVariants as reply
 use Rattle.iofd_words.specs.declared.rows.Phase.TheVariants.{Live}
@@ -71,6 +72,10 @@ pub record IsHit (entries : List Entry) (iova : Iova) (len : ℕ) (kind : Access
 pub record IsFill (w : World) (device : DeviceNo) (entry : Entry) : Type 0 where
   pub backed : IsBacked w device entry
   pub live : backed.area.phase ≡ Live
+
+-- the entry of an address's page, with what the page is translated to
+abbrev pub filled_by : ℕ → Translation → Entry
+filled_by address t = record { page = page_of address; frame = t.frame; rights = t.rights }
 
 -- a device that is flushed, attached or detached has an empty cache
 abbrev pub TurnsAreEmpty : {A : Type 0} → Caches → Event A → Type 0

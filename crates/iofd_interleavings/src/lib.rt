@@ -15,7 +15,7 @@ use std::alloc::Allocator;
 /// Of every list of steps: the records are a run; what devices are answered, out of their caches too, is what the
 /// policy allows; every cache is sound; what is given out was free and in no cache; and frames are one user's or one
 /// table's. Of any run and any sound set of entries: it stays sound as long as the device has no turn, and its entries
-/// pass. The seven sentences stand in `EveryInterleaving`.
+/// pass; and what a walk finds may be added to it. The sentences stand in `EveryInterleaving`.
 pub fn interleavings<A: Allocator>()
     ensures { EveryInterleaving A }
 {}

@@ -97,6 +97,8 @@ answer_text (answer.Read bytes) = codes "ok " ++ encode_lower bytes
 answer_text (answer.Count count) = codes "ok " ++ decimal count
 answer_text (answer.Attached (Some id)) = codes "ok id " ++ decimal id.0
 answer_text (answer.Attached None) = codes "ok"
+answer_text (answer.Walk (Some to)) = codes "ok frame " ++ decimal to.frame.0
+answer_text (answer.Walk None) = codes "ok"
 answer_text (answer.Fault fault) = fault_text fault
 answer_text (answer.Refused refusal) = refusal_text refusal.cause
 

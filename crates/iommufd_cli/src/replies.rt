@@ -42,8 +42,8 @@ impl Line {
         }
     }
 
-    /// Tells an answer to a look: the bytes in hex, the count or the id in decimal, `ok` alone where there is no id,
-    /// the fault, or the errno and the cause of a refusal. A line feed ends it.
+    /// Tells an answer to a look: the bytes in hex, the count, the id or the frame in decimal, `ok` alone where there
+    /// is no id or no frame, the fault, or the errno and the cause of a refusal. A line feed ends it.
     pub fn tell_answer(&mut self, answer: &Answer)
         ensures { self.new ≡ line (answer_text answer.now) }
     {
@@ -51,7 +51,8 @@ impl Line {
             Answer::Read(bytes) => self.tell_hex(b"ok ", bytes.as_slice()),
             Answer::Count(count) => self.tell_number(b"ok ", *count),
             Answer::Attached(Some(id)) => self.tell_number(b"ok id ", u64::from(id.0)),
-            Answer::Attached(None) => self.tell(b"ok"),
+            Answer::Walk(Some(to)) => self.tell_number(b"ok frame ", u64::from(to.frame.0)),
+            Answer::Attached(None) | Answer::Walk(None) => self.tell(b"ok"),
             Answer::Fault(fault) => self.tell_fault(*fault),
             Answer::Refused(refusal) => self.tell_refusal(*refusal),
         }

@@ -1,10 +1,11 @@
 //! One step of a session: carried out, and answered with a line.
 
-ghost use Rattle.std.specs.Prelude.{◌≡◌, ◌⊎◌, ◌<◌, ◌^◌, length};
+ghost use Rattle.std.specs.Prelude.{◌≡◌, ◌⊎◌, ◌<◌, ◌^◌, IsTrue, length};
 ghost use Rattle.iommufd_cli.specs.Replies.{event_text, line, memory_text, ranges_text};
 ghost use Rattle.iommufd_cli.specs.Steps.{AreNotices, IsAnswered, IsApplied, IsAsked, IsDecoded, IsIoctl, IsNotices};
 ghost use Rattle.iommufd_cli.specs.Steps.{IsRanges, IsServed, text_of};
 ghost use Rattle.ioctl_codec.specs.Events.{asked};
+ghost use Rattle.iommufd_core.specs.History.{may_look};
 ghost use Rattle.iofd_words.specs.declared.event.Event.TheVariants as event;
 ghost use Rattle.iofd_words.specs.declared.query.Query.TheVariants as query;
 
@@ -117,6 +118,7 @@ fn tell_event<A: Allocator>(event: Event<A>, reply: &Reply, out: &mut Line)
 
 // The line for a question: always a short one.
 fn answer_query<A: Allocator>(core: &Core<A>, query: &Query, out: &mut Line) -> Option<Vec<u8, A>>
+    requires { IsTrue (may_look core.now.history query.now) }
     ensures { IsAsked core.now query.now (text_of result out.new) core.now }
 {
     out.tell_answer(&core.look(query));

@@ -1,18 +1,19 @@
 -- What applying an event makes of what a core keeps.
-use Rattle.std.proofs.Common.{◌≡◌, ℕ, suc, Bool, true, false, ◌||◌, eqb, is_none, Option, Some, None, List, [], ◌∷◌}
-use Rattle.std.proofs.Common.{◌++◌, length, Contains, refl, sym, ◌∙◌, ap, subst, arith}
+use Rattle.std.proofs.Common.{◌≡◌, ℕ, true, is_none, Option, Some, None, List, [], ◌∷◌}
+use Rattle.std.proofs.Common.{◌++◌, length, refl, sym, ◌∙◌, subst}
 use Rattle.std.specs.List.{list_any}
-use Rattle.std.proofs.lemmas.Bool.Decides.{nat_tests}
+use Rattle.std.specs.Option.{option_map}
 use Rattle.iofd_rows.proofs.Bools.{and_true}
 use Rattle.iofd_words.specs.After.{changed}
 use Rattle.iofd_words.specs.Checks.{refusal}
-use Rattle.iofd_words.specs.Policy.{Outcome, Passes, Denied, outcomes}
+use Rattle.iofd_words.specs.Policy.{outcomes}
 use Rattle.iofd_words.specs.Run.{IsAnswer, IsRun, Lawful, after, after_answer, world_of}
 use Rattle.iofd_words.specs.Tables.{with_tables}
 use Rattle.iofd_words.specs.World.{World}
 use Rattle.iofd_words.specs.declared.event.Event.{Event}
 use Rattle.iofd_words.specs.declared.event.Event.TheVariants as event
 use Rattle.iofd_words.specs.declared.fault.AccessKind.TheVariants.{Write}
+use Rattle.iofd_words.specs.declared.numbers.DeviceNo.{DeviceNo}
 use Rattle.iofd_words.specs.declared.numbers.FrameNo.{FrameNo}
 use Rattle.iofd_words.specs.declared.numbers.PassNo.{PassNo}
 use Rattle.iofd_words.specs.declared.record.Record.{Record}
@@ -23,12 +24,14 @@ use Rattle.iofd_runs.proofs.PassFound.{pass_found}
 use Rattle.iofd_runs.specs.Fits.{RowsFit}
 use Rattle.server_state.proofs.KeepsUsed.{keeps_used}
 use Rattle.iofd_runs.proofs.SameSettings.{changed_settings}
+use Rattle.iommufd_core.proofs.Counted.{one_counted}
 use Rattle.iommufd_core.proofs.Histories.{fit_run, tidy_run}
 use Rattle.server_state.specs.Choice.{AreFramesChosen, IsChosen, MayUse, NoneIdle}
 use Rattle.iommufd_core.specs.History.{History, may_apply, world}
 use Rattle.iofd_words.specs.Policy.{is_pass_at}
 use Rattle.server_state.specs.Step.{recorded}
 use Rattle.iommufd_core.specs.Kept.{IsKept}
+use Rattle.iommufd_core.specs.TurnCounts.{AreTurns, count_for, counted_with}
 use Rattle.server_state.specs.Shows.{Shows}
 use Rattle.server_state.specs.Step.{Answered, IsTidy, TidyShowsSame}
 use Rattle.server_state.specs.declared.state.State.{State}
@@ -70,7 +73,8 @@ module _ {A : Type 0} (at : ℕ) (w : World) (r : Record A) (tidy : IsTidy at w)
 
 -- ---- the fields
 
-module _ {A : Type 0} (old new : State A) (records : List (Record A)) (kept : IsKept old records) where
+module _ {A : Type 0} (old new : State A) (counts : List ℕ) (records : List (Record A))
+    (kept : IsKept old counts records) where
   same_config : (w : World) → Shows (world_of old.config records) old → Shows w new
       → w.settings ≡ (world_of old.config records).settings → new.config ≡ old.config
   same_config w shows shown same = sym shown.settings ∙ same ∙ shows.settings
@@ -79,7 +83,7 @@ module _ {A : Type 0} (old new : State A) (records : List (Record A)) (kept : Is
   unchanged_config stays = same_config (world_of old.config records) kept.shows
       (stays (world_of old.config records) (tidy_run old.config records kept.run kept.used) kept.shows) refl
 
-  pub unchanged_kept : TidyShowsSame (length records) old new → IsKept new records
+  pub unchanged_kept : TidyShowsSame (length records) old new → IsKept new counts records
   unchanged_kept stays =
       let config = unchanged_config stays in
       record {
@@ -87,6 +91,7 @@ module _ {A : Type 0} (old new : State A) (records : List (Record A)) (kept : Is
         shows = subst (λ settings. Shows (world_of settings records) new) (sym config)
             (stays (world_of old.config records) (tidy_run old.config records kept.run kept.used) kept.shows);
         used = rw config kept.used;
+        turns = subst (λ settings. AreTurns counts settings records) (sym config) kept.turns;
       }
 
   module _ (pass : PassNo) (e : Event A) (via : Option FrameNo) (answer : Reply) (taken given : List FrameNo)
@@ -119,14 +124,20 @@ module _ {A : Type 0} (old new : State A) (records : List (Record A)) (kept : Is
         (used_after (length records) (world_of old.config records) (recorded pass e answer taken given)
         (tidy_run old.config records kept.run kept.used) told.0 (λ none. (told.1 none).1) fit)
 
-    pub applied_kept : IsKept new (records ++ recorded pass e answer taken given ∷ [])
-    applied_kept =
+    pub applied_kept : (later : List ℕ)
+        → ((device : DeviceNo) → count_for later device
+        ≡ option_map (counted_with e device) (count_for counts device))
+        → IsKept new later (records ++ recorded pass e answer taken given ∷ [])
+    applied_kept later counted =
         record {
           run = rw applied_config one_more;
           shows = subst (λ settings. Shows (world_of settings (records ++ recorded pass e answer taken given ∷ [])) new)
               (sym applied_config)
               (rw (world_more old.config records (recorded pass e answer taken given)) told.2);
           used = rw applied_config none_idle;
+          turns = subst (λ settings. AreTurns later settings (records ++ recorded pass e answer taken given ∷ []))
+              (sym applied_config)
+              (one_counted counts later old.config records (recorded pass e answer taken given) kept.turns counted);
         }
 
     pub applied_chosen : refusal (world_of old.config records) e ≡ None

@@ -9,9 +9,11 @@ use Rattle.iofd_words.specs.Settings.{Settings}
 use Rattle.iofd_words.specs.World.{World}
 use Rattle.iofd_words.specs.declared.event.Event.{Event}
 use Rattle.iofd_words.specs.declared.event.Event.TheVariants as event
-use Rattle.iofd_words.specs.declared.fault.AccessKind.TheVariants.{Write}
+use Rattle.iofd_words.specs.declared.fault.AccessKind.TheVariants.{Read, Write}
 use Rattle.iofd_words.specs.declared.numbers.FrameNo.{FrameNo}
 use Rattle.iofd_words.specs.declared.numbers.PassNo.{PassNo}
+use Rattle.iofd_words.specs.declared.query.Query.{Query}
+use Rattle.iofd_words.specs.declared.query.Query.TheVariants.{CachedRead}
 use Rattle.iofd_words.specs.declared.record.Record.{Record}
 use Rattle.iofd_words.specs.declared.reply.Reply.{Reply}
 use Rattle.server_state.specs.Choice.{AreFramesChosen}
@@ -43,3 +45,8 @@ module _ {A : Type 0} where
   may_apply h (event.DeviceWrite device iova bytes) (Some frame) =
       passes_in (world h) device iova (length bytes) Write frame
   may_apply h e (Some frame) = false
+
+  -- a question may be asked: it is no read at a kept frame, or one that may pass there
+  abbrev pub may_look : History A → Query → Bool
+  may_look h (CachedRead device iova len frame) = passes_in (world h) device iova len Read frame
+  may_look h query = true

@@ -1,4 +1,6 @@
+pub mod Asked
 pub mod History
 pub mod Kept
 pub mod Refused
 pub mod Server
+pub mod TurnCounts

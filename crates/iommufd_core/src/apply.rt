@@ -7,12 +7,12 @@ ghost use Rattle.iofd_words.specs.FirstTrue.{first_true};
 ghost use Rattle.iofd_words.specs.Look.{AreUsableRanges, answers_to, notices_checks, passes_in, ranges_checks};
 ghost use Rattle.iofd_words.specs.Run.{IsRun};
 ghost use Rattle.server_state.specs.Choice.{IsChosen, IsLooked};
-ghost use Rattle.iommufd_core.specs.History.{HasOneMore, may_apply, world};
+ghost use Rattle.iommufd_core.specs.History.{HasOneMore, may_apply, may_look, world};
 ghost use Rattle.iommufd_core.specs.Refused.{refused_cause};
 ghost use Rattle.iommufd_core.specs.Server.{MayWant};
 ghost use Rattle.iofd_words.specs.View.{view};
 
-use crate::{events, look, notices, opening, ranges};
+use crate::{events, look, notices, opening, ranges, turn_counts};
 use event_device_access::access;
 use iofd_words::{
     AccessKind, Act, Answer, CallError, Config, DeviceNo, FileNo, FrameList, FrameNo, Iova,
@@ -35,6 +35,8 @@ pub struct Stamp {
 #[derive(Drop)]
 pub struct Core<A: Allocator = Global> {
     state: State<A>,
+    // How many of the records are turns of each device, from device 1 on.
+    turns: Vec<u64, A>,
     records: Vec<Record<A>, A>,
 }
 
@@ -50,7 +52,7 @@ impl<A: Allocator> Model for Core<A> {
       room = vec_capacity c.records - vec_len c.records;
     } };
 
-    ghost invariant = { λ c. IsKept c.state c.records.items };
+    ghost invariant = { λ c. IsKept c.state c.turns.items c.records.items };
 }
 
 impl<A: Allocator + Copy> Core<A> {
@@ -59,8 +61,10 @@ impl<A: Allocator + Copy> Core<A> {
     pub fn new<B: Allocator>(alloc: A, config: &Config<B>) -> Result<Core<A>, NoMemory>
         ensures { IfOk result (λ core. core.history ≡ record { settings = config.now; records = [] }) }
     {
+        let turns = turn_counts::none(alloc, config.devices().len())?;
         Ok(Core {
             state: opening::opened(alloc, config)?,
+            turns,
             records: Vec::new(alloc),
         })
     }
@@ -98,6 +102,7 @@ impl<A: Allocator + Copy> Core<A> {
         let Ok(reply) = events::answer(&mut self.state, at, act, &mut taken, &mut given) else {
             return Err(NoMemory);
         };
+        turn_counts::count(&mut self.turns, &act.event);
         self.records.push_reserved(Record {
             pass,
             event,
@@ -142,16 +147,18 @@ impl<A: Allocator + Copy> Core<A> {
 }
 
 impl<A: Allocator> Core<A> {
-    /// Answers a question about the world. It takes no memory and changes nothing. A device that owes the area
-    /// a flush is denied.
+    /// Answers a question about the world or the records. It takes no memory and changes nothing. A device that owes
+    /// the area a flush is denied. A read at a kept frame may be asked for only where `may_pass` says that it passes
+    /// there.
     pub fn look(&self, query: &Query) -> Answer
+        requires { IsTrue (may_look self.now.history query.now) }
         ensures { IsLooked (answers_to self.now.history.settings self.now.history.records query.now) result }
     {
-        look::look(&self.state, query)
+        look::look(&self.state, &self.turns, query)
     }
 
     /// Whether nothing refuses the device's access to so many bytes, and the policy lets it pass at this frame: the
-    /// test of what `apply` asks of an act with a cached frame. It takes no memory.
+    /// test of what `apply` asks of an act with a cached frame, and `look` of a read at a kept one. It takes no memory.
     pub fn may_pass(
         &self,
         device: DeviceNo,

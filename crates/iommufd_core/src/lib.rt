@@ -8,5 +8,6 @@ mod look;
 mod notices;
 mod opening;
 mod ranges;
+mod turn_counts;
 
 pub use apply::{Core, Stamp};

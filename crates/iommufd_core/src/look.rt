@@ -1,6 +1,6 @@
 //! Each question, refused or answered. None takes memory.
 
-ghost use Rattle.std.specs.Prelude.{◌≡◌, ℕ, List, None};
+ghost use Rattle.std.specs.Prelude.{◌≡◌, ℕ, IsTrue, List, None};
 ghost use Rattle.std.specs.Option.{option_map};
 ghost use Rattle.iofd_words.specs.Attachments.{attachment_of};
 ghost use Rattle.iofd_words.specs.FirstTrue.{first_true};
@@ -9,27 +9,32 @@ ghost use Rattle.iofd_words.specs.View.{view};
 ghost use Rattle.iofd_words.specs.World.{World};
 ghost use Rattle.iofd_words.specs.declared.query.Query.TheVariants as queries;
 ghost use Rattle.iofd_words.specs.declared.record.Record.{Record};
+ghost use Rattle.iommufd_core.specs.Asked.{may_ask};
+ghost use Rattle.iommufd_core.specs.TurnCounts.{AreTurns};
 ghost use Rattle.server_state.specs.Choice.{IsLooked};
 ghost use Rattle.server_state.specs.Seen.{seen};
 ghost use Rattle.server_state.specs.Shows.{Shows};
 ghost use Rattle.server_state.specs.Step.{IsAsked, IsKnown, IsTidy};
 
+use crate::turn_counts;
 use access_pins::read as access_read;
-use event_device_access::{access, device_read};
+use event_device_access::{access, device_read, walk};
 use event_user_memory::{user_access, user_read};
 use iofd_words::{Answer, Cause, DeviceNo, ObjId, Query, Refusal, UserNo};
 use server_state::State;
 use std::alloc::Allocator;
 
-/// What is answered. A device that owes the area a flush is denied.
-pub(crate) fn look<A: Allocator>(state: &State<A>, query: &Query) -> Answer
-    requires { IsKnown state.now }
+/// What is answered, where these are the devices' turns. A device that owes the area a flush is denied.
+pub(crate) fn look<A: Allocator>(state: &State<A>, turns: &[u64], query: &Query) -> Answer
+    requires known { IsKnown state.now }
+    requires may { IsTrue (may_ask (seen state.now) query.now) }
     ensures { (at : ℕ) (w : World) (records : List (Record A)) → IsTidy at w → Shows w state.now
+        → AreTurns turns.now state.now.config records
         → IsLooked (answers_in w records query.now) result }
 {
     match refusal(state, query) {
         Some(cause) => Answer::Refused(Refusal { cause }),
-        None => answer(state, query),
+        None => answer(state, turns, query),
     }
 }
 
@@ -39,9 +44,13 @@ fn refusal<A: Allocator>(state: &State<A>, query: &Query) -> Option<Cause>
     ensures { result ≡ first_true (query_checks (seen state.now) query.now) }
 {
     match query {
-        Query::DeviceRead { device, iova, len } => {
-            access::refusal(state, *device, *iova, usize::from(*len))
-        }
+        Query::DeviceRead { device, iova, len }
+        | Query::CachedRead {
+            device,
+            iova,
+            len,
+            ..
+        } => access::refusal(state, *device, *iova, usize::from(*len)),
         Query::UserRead { user, va, len } => {
             user_access::refusal(state, *user, *va, usize::from(*len))
         }
@@ -53,15 +62,18 @@ fn refusal<A: Allocator>(state: &State<A>, query: &Query) -> Option<Cause>
         } => access_read::refusal(state, *file, *access, *iova, *len),
         Query::FreeFrames => None,
         Query::Held(user) => refusal_by_user(state, *user),
-        Query::AttachedTo(device) => refusal_by_device(state, *device),
+        Query::AttachedTo(device) | Query::Turns(device) | Query::WalkFor { device, .. } => {
+            refusal_by_device(state, *device)
+        }
     }
 }
 
 /// What is answered to a question that nothing refuses.
-fn answer<A: Allocator>(state: &State<A>, query: &Query) -> Answer
-    requires { IsAsked query.now state.now }
+fn answer<A: Allocator>(state: &State<A>, turns: &[u64], query: &Query) -> Answer
+    requires asked { IsAsked query.now state.now }
+    requires may { IsTrue (may_ask (seen state.now) query.now) }
     ensures { (at : ℕ) (w : World) (records : List (Record A)) → IsTidy at w → Shows w state.now
-        → first_true (query_checks (view w) query.now) ≡ None
+        → AreTurns turns.now state.now.config records → first_true (query_checks (view w) query.now) ≡ None
         → IsLooked (lawful_answers w records query.now) result }
 {
     match query {
@@ -76,6 +88,15 @@ fn answer<A: Allocator>(state: &State<A>, query: &Query) -> Answer
         Query::FreeFrames => Answer::Count(u64::from(state.pool.free_count())),
         Query::Held(user) => Answer::Count(state.memory.held(*user)),
         Query::AttachedTo(device) => Answer::Attached(hwpt_of(state, *device)),
+        // It isn't refused, so there is such a device.
+        Query::Turns(device) => Answer::Count(turn_counts::count_for(turns, *device).unwrap_or(0)),
+        Query::WalkFor { device, iova } => Answer::Walk(walk::walk_for(state, *device, iova.0)),
+        Query::CachedRead {
+            device,
+            iova,
+            len,
+            frame,
+        } => device_read::cached(state, *device, *iova, *len, *frame),
     }
 }
 
@@ -90,7 +111,7 @@ fn refusal_by_user<A: Allocator>(state: &State<A>, user: UserNo) -> Option<Cause
     }
 }
 
-/// Why a question about a device's attachment is refused.
+/// Why a question about a device is refused.
 fn refusal_by_device<A: Allocator>(state: &State<A>, device: DeviceNo) -> Option<Cause>
     ensures { result ≡ first_true (query_checks (seen state.now) (queries.AttachedTo device)) }
 {

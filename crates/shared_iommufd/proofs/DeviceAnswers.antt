@@ -102,6 +102,7 @@ ComesOfRead address len (answer.Fault fault) = Unit {0}
 ComesOfRead address len (answer.Refused refusal) = Unit {0}
 ComesOfRead address len (answer.Count count) = ⊥
 ComesOfRead address len (answer.Attached hwpt) = ⊥
+ComesOfRead address len (answer.Walk translation) = ⊥
 
 pub comes_of_read : {A : Type 0} (settings : Settings) (records : List (Record A)) (device : DeviceNo) (iova : Iova)
     (len : ℕ) (a : Answer) → IsRun settings records
@@ -144,7 +145,7 @@ ComesOfWrite address (reply.Fault fault) = Unit {0}
 ComesOfWrite address (reply.Refused refusal) = Unit {0}
 ComesOfWrite address other = ⊥
 
-run_before : {A : Type 0} (settings : Settings) (before : List (Record A)) (made : Record A)
+pub run_before : {A : Type 0} (settings : Settings) (before : List (Record A)) (made : Record A)
     → IsRun settings (before ++ made ∷ []) → IsRun settings before
 unfolding IsRun
 run_before settings before made run = run_beginning 0 (opening settings) before (made ∷ []) run

@@ -6,10 +6,10 @@ use Rattle.lane_lock.specs.Ending.{HasNumber}
 use Rattle.lane_lock.specs.History.{Legal, StartsWith, made_by}
 use Rattle.lane_lock.specs.Passes.{number_of, passes_of, view_of}
 use Rattle.shared_iommufd.specs.Ends.{Ends}
-use Rattle.shared_iommufd.specs.Entries.{maker_of, told}
-use Rattle.shared_iommufd.specs.Opening.{opened_with}
-use Rattle.shared_iommufd.specs.Passes.{CoreGhosts, CoreLock, CorePass}
-use Rattle.shared_iommufd.proofs.Entered.{one_entry, same_settings}
+use Rattle.guarded_core.specs.Entries.{maker_of, told}
+use Rattle.guarded_core.specs.Opening.{opened_with}
+use Rattle.guarded_core.specs.Passes.{CoreGhosts, CoreLock, CorePass}
+use Rattle.guarded_core.proofs.Entered.{one_entry, same_settings}
 
 module _ {A : Type 0} {g : CoreGhosts A} where
   pub ends : (lock : CoreLock A) (passes : List (CorePass A g)) (h : History A) → (opened_with lock).records ≡ []

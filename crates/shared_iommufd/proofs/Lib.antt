@@ -1,8 +1,7 @@
+pub mod Accessed
 pub mod Bounds
 pub mod DeviceAnswers
-pub mod Entered
 pub mod Ended
-pub mod Guards
 pub mod Keys
 pub mod Passed
 pub mod PortReads

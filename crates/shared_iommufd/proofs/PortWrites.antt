@@ -4,15 +4,17 @@ use Rattle.std.proofs.Common.{Result, length-drop, map, refl, sym, ap, ◌∙◌
 use Rattle.std.proofs.Math.Nat.{min-le_left}
 use Rattle.std.proofs.Math.Seq.{take-add}
 use Rattle.std.proofs.lemmas.List.{length-take-le}
-use Rattle.iofd_words.specs.Pages.{offset_of}
+use Rattle.iofd_words.specs.Pages.{offset_of, page_of}
 use Rattle.iofd_words.specs.Run.{IsRun}
 use Rattle.iofd_words.specs.Settings.{Settings}
 use Rattle.iofd_words.specs.declared.event.Act.{Act}
 use Rattle.iofd_words.specs.declared.event.Event.TheVariants as event
+use Rattle.iofd_words.specs.declared.fault.AccessKind.TheVariants.{Write}
 use Rattle.iofd_words.specs.declared.fault.Fault.{Fault}
 use Rattle.iofd_words.specs.declared.numbers.DeviceNo.{DeviceNo}
 use Rattle.iofd_words.specs.declared.numbers.FrameNo.{FrameNo}
 use Rattle.iofd_words.specs.declared.numbers.Iova.{Iova}
+use Rattle.iofd_words.specs.declared.query.Translation.{Translation}
 use Rattle.iofd_words.specs.declared.refusal.Refusal.{Refusal}
 use Rattle.iofd_words.specs.declared.reply.Reply.{Reply}
 use Rattle.iofd_words.specs.declared.reply.Reply.TheVariants as reply
@@ -22,33 +24,38 @@ use Rattle.lane_lock.specs.History.{made_by}
 use Rattle.lane_lock.specs.Outcomes.{OnlySees}
 use Rattle.lane_lock.specs.Passes.{SamePass, view_of}
 use Rattle.lane_lock.specs.declared.refusal.NotNow.{NotNow}
-use Rattle.shared_iommufd.specs.Applied.{IsApplied}
-use Rattle.shared_iommufd.specs.Entries.{history_of, maker_of, told}
-use Rattle.shared_iommufd.specs.Made.{Makes, act_of}
-use Rattle.shared_iommufd.specs.Passes.{CoreGhosts, CorePass}
-use Rattle.shared_iommufd.specs.Pieces.{HavePassed, Piece, pass_after, piece_len}
+use Rattle.guarded_core.specs.Applied.{IsApplied}
+use Rattle.port_cache.specs.Cached.{Leaves, Translations, compared}
+use Rattle.guarded_core.specs.Caches.{found, write_by}
+use Rattle.guarded_core.specs.Entries.{history_of, maker_of, told}
+use Rattle.shared_iommufd.specs.Made.{Makes}
+use Rattle.guarded_core.specs.Passes.{CoreGhosts, CorePass}
+use Rattle.shared_iommufd.specs.Pieces.{HavePassed, Piece, standing_after, piece_len}
 use Rattle.shared_iommufd.specs.PortWrites.{
   DeniesWrite,
   HasWritten,
   IsWrittenPiece,
   IsWrittenSo,
   StopsWrite,
+  TellsWrite,
   Writes,
   WritesOn,
 }
+use Rattle.shared_iommufd.specs.Ports.{KeepsSame, Standing}
+use Rattle.port_cache.specs.declared.cache.Found.{Found}
 use Rattle.shared_iommufd.specs.declared.error.PortCause.{PortCause}
 use Rattle.shared_iommufd.specs.declared.error.PortError.{PortError}
-use Rattle.shared_iommufd.specs.declared.error.TryError.{TryError}
-use Rattle.shared_iommufd.specs.declared.error.TryError.TheVariants as tried
-use Rattle.shared_iommufd.specs.declared.kept_core.Entry.TheVariants as entry
+use Rattle.guarded_core.specs.declared.try_error.TryError.{TryError}
+use Rattle.guarded_core.specs.declared.try_error.TryError.TheVariants as tried
+use Rattle.guarded_core.specs.declared.kept_core.Entry.TheVariants as entry
 use Rattle.shared_iommufd.proofs.DeviceAnswers.{ComesOfWrite, comes_of_write}
-use Rattle.shared_iommufd.proofs.Guards.{commit_sees}
+use Rattle.guarded_core.proofs.Guards.{commit_sees}
 use Rattle.shared_iommufd.proofs.Passed.{bytes_more, none_passed, one_passed, passed_later, place_more}
-use Rattle.shared_iommufd.proofs.Shown.{starts_so}
+use Rattle.guarded_core.proofs.Entered.{starts_so}
 
 module _ {A : Type 0} {g : CoreGhosts A} where
   -- what was made once the pass had seen more was made by it as it was before
-  pub makes_sooner : (settings : Settings) (o p q : CorePass A g) (act : Act A) (stamp : Stamp) → SamePass o p
+  abbrev pub makes_sooner : (settings : Settings) (o p q : CorePass A g) (act : Act A) (stamp : Stamp) → SamePass o p
       → OnlySees (view_of o) (view_of p) → Makes settings p act stamp q → Makes settings o act stamp q
   makes_sooner settings o p q act stamp same sees m = record {
     before = m.before;
@@ -62,11 +69,42 @@ module _ {A : Type 0} {g : CoreGhosts A} where
     own = m.own ∙ ap (λ l. l ++ entry.Made m.made ∷ []) sees.made;
   }
 
+  -- what is written by a port that keeps the same is written so
+  tells_sooner : (settings : Settings) (device : DeviceNo) (address : ℕ) (bytes : List ℕ) (o p : Standing A g)
+      (finds : Found) (stamp : Stamp) (pass : CorePass A g) → SamePass o.pass p.pass
+      → OnlySees (view_of o.pass) (view_of p.pass) → KeepsSame o p
+      → TellsWrite settings device address bytes p finds stamp pass
+      → TellsWrite settings device address bytes o finds stamp pass
+  tells_sooner settings device address bytes o p finds stamp pass is_pass sees same tells = record {
+    makes = makes_sooner settings o.pass p.pass pass (write_by device address bytes finds.translation) stamp is_pass sees
+        tells.makes;
+    turns = tells.turns;
+    found = tells.found ∙ (λ i. found settings tells.makes.before device (same.turns i) (same.kept i) address Write);
+    passes = tells.passes;
+  }
+
+  written_sooner : (settings : Settings) (device : DeviceNo) (most address : ℕ) (bytes : List ℕ) (o p : Standing A g)
+      (told : Reply) (place : Option ℕ) (q : Standing A g) → SamePass o.pass p.pass
+      → OnlySees (view_of o.pass) (view_of p.pass) → KeepsSame o p
+      → IsWrittenSo settings device most address bytes p told place q
+      → IsWrittenSo settings device most address bytes o told place q
+  written_sooner settings device most address bytes o p told place q is_pass sees same written = record {
+    finds = written.finds;
+    stamp = written.stamp;
+    tells = tells_sooner settings device address bytes o p written.finds written.stamp q.pass is_pass sees same
+        written.tells;
+    reply = written.reply;
+    at = written.at;
+    turns = written.turns;
+    leaves = subst (λ (c : ℕ × Translations). Leaves most (page_of address) written.finds.translation
+        (compared c.0 written.finds.turns c.1) q.kept) (λ i. (same.turns i, same.kept i)) written.leaves;
+  }
+
   -- what the reply to a device's write may be
-  pub comes_of_made : (settings : Settings) (device : DeviceNo) (iova : Iova) (bytes : List ℕ) (p q : CorePass A g)
-      (stamp : Stamp) → Makes settings p (act_of (event.DeviceWrite device iova bytes)) stamp q
+  pub comes_of_made : (settings : Settings) (device : DeviceNo) (iova : Iova) (bytes : List ℕ) (o : Option Translation)
+      (p q : CorePass A g) (stamp : Stamp) → Makes settings p (write_by device iova.0 bytes o) stamp q
       → ComesOfWrite iova.0 stamp.reply
-  comes_of_made settings device iova bytes p q stamp m =
+  comes_of_made settings device iova bytes o p q stamp m =
       let one = m.applied.one_more in
       let same : history_of settings (m.before ++ m.made ∷ []) ≡ history_of settings (m.before ++ one.made ∷ []) =
       one.records in
@@ -87,47 +125,42 @@ no_other address (reply.Fault fault) comes passed denied refused = denied fault 
 no_other address (reply.Refused refusal) comes passed denied refused = refused refusal refl
 no_other address other comes passed denied refused = absurd comes
 
-module _ {A : Type 0} {g : CoreGhosts A} (settings : Settings) (device : DeviceNo) (address : ℕ) (bytes : List ℕ)
-    (first : CorePass A g) where
-  pub none_written : HasWritten settings device address bytes first 0 first None
+module _ {A : Type 0} {g : CoreGhosts A} (settings : Settings) (device : DeviceNo) (most address : ℕ) (bytes : List ℕ)
+    (first : Standing A g) where
+  pub none_written : HasWritten settings device most address bytes first 0 first None
   none_written = record {
     pieces = [];
-    passed = none_passed (IsWrittenPiece settings device) address (length bytes) first;
+    passed = none_passed (IsWrittenPiece settings device most) address (length bytes) first;
     taken = refl;
     ends = refl;
   }
 
   -- one piece more
-  pub one_written : (of : DeviceNo) (done len k : ℕ) (p q : CorePass A g) (before last : Option ℕ) (frame : FrameNo)
-      → of ≡ device → HasWritten settings device address bytes first done p before
-      → len ≡ piece_len (address + done) (length bytes - done) → k ≡ len → SamePass p q
-      → IsWrittenSo settings of (address + done) (take k (drop done bytes)) p (reply.Passed frame) last q
-      → HasWritten settings device address bytes first (done + len) q last
+  pub one_written : (of : DeviceNo × ℕ) (done len k : ℕ) (p q : Standing A g) (before last : Option ℕ) (frame : FrameNo)
+      → of ≡ (device, most) → HasWritten settings device most address bytes first done p before
+      → len ≡ piece_len (address + done) (length bytes - done) → k ≡ len → SamePass p.pass q.pass
+      → IsWrittenSo settings of.0 of.1 (address + done) (take k (drop done bytes)) p (reply.Passed frame) last q
+      → HasWritten settings device most address bytes first (done + len) q last
   one_written of done len k p q before last frame its has fits same_len same written_so =
       let pieces = has.pieces in
       let part = take len (drop done bytes) in
-      let piece : Piece A g = record { bytes = part; at = last; pass = q } in
-      let written : IsWrittenSo settings device (address + done) part p (reply.Passed frame) last q =
-      subst (λ (c : DeviceNo × ℕ). IsWrittenSo settings c.0 (address + done) (take c.1 (drop done bytes)) p
+      let piece : Piece A g = record { bytes = part; at = last; after = q } in
+      let written : IsWrittenSo settings device most (address + done) part p (reply.Passed frame) last q =
+      subst (λ (c : (DeviceNo × ℕ) × ℕ). IsWrittenSo settings c.0.0 c.0.1 (address + done) (take c.1 (drop done bytes)) p
       (reply.Passed frame) last q) (λ i. (its i, same_len i)) written_so in
       let few : len ≤ length bytes - done = subst (λ (n : ℕ). n ≤ length bytes - done) (sym fits)
       (min-le_left (length bytes - done) (min (4096 - offset_of (address + done)) 64)) in
       let rest : length (drop done bytes) ≡ length bytes - done = length-drop done bytes in
       let count : length part ≡ len = length-take-le len (drop done bytes) (omega (arith, few, rest)) in
-      let passed : HavePassed (IsWrittenPiece settings device) address (length bytes) first (pieces ++ piece ∷ [])
+      let passed : HavePassed (IsWrittenPiece settings device most) address (length bytes) first (pieces ++ piece ∷ [])
       (done + length part) q =
-      one_passed (IsWrittenPiece settings device) address (length bytes) done first p pieces piece has.passed
+      one_passed (IsWrittenPiece settings device most) address (length bytes) done first p pieces piece has.passed
       (count ∙ fits) same record {
         frame = frame;
-        written = record {
-          stamp = written.stamp;
-          makes = makes_sooner settings (pass_after first pieces) p q _ written.stamp has.passed.same has.passed.sees
-              written.makes;
-          reply = written.reply;
-          at = written.at;
-        };
+        written = written_sooner settings device most (address + done) part (standing_after first pieces) p
+            (reply.Passed frame) last q has.passed.same has.passed.sees has.passed.keeps written;
       } in
-      subst (λ (n : ℕ). HasWritten settings device address bytes first (done + n) q last) count record {
+      subst (λ (n : ℕ). HasWritten settings device most address bytes first (done + n) q last) count record {
         pieces = pieces ++ piece ∷ [];
         passed = passed;
         taken = bytes_more pieces piece
@@ -137,23 +170,25 @@ module _ {A : Type 0} {g : CoreGhosts A} (settings : Settings) (device : DeviceN
       }
 
   -- the pass has only seen more since
-  pub written_later : (done : ℕ) (p q : CorePass A g) (last : Option ℕ)
-      → HasWritten settings device address bytes first done p last → SamePass p q → OnlySees (view_of p) (view_of q)
-      → HasWritten settings device address bytes first done q last
-  written_later done p q last has same sees = record {
+  pub written_later : (done : ℕ) (p q : Standing A g) (last : Option ℕ)
+      → HasWritten settings device most address bytes first done p last → SamePass p.pass q.pass
+      → OnlySees (view_of p.pass) (view_of q.pass) → KeepsSame p q
+      → HasWritten settings device most address bytes first done q last
+  written_later done p q last has same sees keeps = record {
     pieces = has.pieces;
-    passed = passed_later (IsWrittenPiece settings device) address (length bytes) done first p q has.pieces has.passed
-        same sees;
+    passed = passed_later (IsWrittenPiece settings device most) address (length bytes) done first p q has.pieces
+        has.passed same sees keeps;
     taken = has.taken;
     ends = has.ends;
   }
 
   -- the next piece isn't written
-  pub write_stops : (lanes : ℕ) (of : DeviceNo) (done len k : ℕ) (p q : CorePass A g) (before last : Option ℕ)
-      (cause : TryError PortCause) → of ≡ device → HasWritten settings device address bytes first done p before
-      → done < length bytes → len ≡ piece_len (address + done) (length bytes - done) → k ≡ len → SamePass p q
-      → DeniesWrite settings lanes of (address + done) (take k (drop done bytes)) p before cause q last
-      → StopsWrite settings lanes device address bytes first (record { done = done; cause = cause }) q last
+  pub write_stops : (lanes : ℕ) (of : DeviceNo × ℕ) (done len k : ℕ) (p q : Standing A g) (before last : Option ℕ)
+      (cause : TryError PortCause) → of ≡ (device, most)
+      → HasWritten settings device most address bytes first done p before → done < length bytes
+      → len ≡ piece_len (address + done) (length bytes - done) → k ≡ len → SamePass p.pass q.pass
+      → DeniesWrite settings lanes of.0 of.1 (address + done) (take k (drop done bytes)) p before cause q last
+      → StopsWrite settings lanes device most address bytes first (record { done = done; cause = cause }) q last
   write_stops lanes of done len k p q before last cause its has less fits same_len same denied =
       record {
         before = p;
@@ -161,50 +196,51 @@ module _ {A : Type 0} {g : CoreGhosts A} (settings : Settings) (device : DeviceN
         written = has;
         less = less;
         same = same;
-        denied = subst (λ (c : DeviceNo × ℕ). DeniesWrite settings lanes c.0 (address + done) (take c.1 (drop done bytes))
-            p before cause q last) (λ i. (its i, (same_len ∙ fits) i)) denied;
+        denied = subst (λ (c : (DeviceNo × ℕ) × ℕ). DeniesWrite settings lanes c.0.0 c.0.1 (address + done)
+            (take c.1 (drop done bytes)) p before cause q last) (λ i. (its i, (same_len ∙ fits) i)) denied;
       }
 
   -- it has come to the end
-  pub all_written : (done : ℕ) (p : CorePass A g) (last : Option ℕ)
-      → HasWritten settings device address bytes first done p last → length bytes ≤ done
-      → HasWritten settings device address bytes first (length bytes) p last
+  pub all_written : (done : ℕ) (p : Standing A g) (last : Option ℕ)
+      → HasWritten settings device most address bytes first done p last → length bytes ≤ done
+      → HasWritten settings device most address bytes first (length bytes) p last
   all_written done p last has end =
       let within = has.passed.within in
       let e : done ≡ length bytes = omega (arith, within, end) in
-      subst (λ (n : ℕ). HasWritten settings device address bytes first n p last) e has
+      subst (λ (n : ℕ). HasWritten settings device most address bytes first n p last) e has
 
 -- ---- a write that goes on
 
-module _ {A : Type 0} {g : CoreGhosts A} (settings : Settings) (lanes : ℕ) (of device : DeviceNo) (address : ℕ)
-    (bytes : List ℕ) (first : CorePass A g) where
-  pub goes_on : (done : ℕ) (p q : CorePass A g) (before last : Option ℕ)
-      (result : Result (Unit {0}) (PortError (TryError PortCause))) → of ≡ device
-      → HasWritten settings device address bytes first done p before
-      → WritesOn settings lanes of address bytes p done before result q last
-      → Writes settings lanes device address bytes first result q last
+module _ {A : Type 0} {g : CoreGhosts A} (settings : Settings) (lanes : ℕ) (of at : DeviceNo × ℕ) (address : ℕ)
+    (bytes : List ℕ) (first : Standing A g) where
+  pub goes_on : (done : ℕ) (p q : Standing A g) (before last : Option ℕ)
+      (result : Result (Unit {0}) (PortError (TryError PortCause))) → of ≡ at
+      → HasWritten settings at.0 at.1 address bytes first done p before
+      → WritesOn settings lanes of.0 of.1 address bytes p done before result q last
+      → Writes settings lanes at.0 at.1 address bytes first result q last
   goes_on done p q before last result its has on =
-      subst (λ (d : DeviceNo). Writes settings lanes d address bytes first result q last) its
-      (on first (subst (λ (d : DeviceNo). HasWritten settings d address bytes first done p before) (sym its) has))
+      subst (λ (d : DeviceNo × ℕ). Writes settings lanes d.0 d.1 address bytes first result q last) its
+      (on first (subst (λ (d : DeviceNo × ℕ). HasWritten settings d.0 d.1 address bytes first done p before) (sym its)
+      has))
 
   -- it stopped since the lanes couldn't be had, and has come no less far
-  pub stays_written : (error : PortError (TryError PortCause)) (refused : NotNow) (q : CorePass A g) (last : Option ℕ)
-      → error.cause ≡ tried.NotNow refused → StopsWrite settings lanes device address bytes first error q last
-      → HasWritten settings device address bytes first error.done q last
+  pub stays_written : (error : PortError (TryError PortCause)) (refused : NotNow) (q : Standing A g) (last : Option ℕ)
+      → error.cause ≡ tried.NotNow refused → StopsWrite settings lanes at.0 at.1 address bytes first error q last
+      → HasWritten settings at.0 at.1 address bytes first error.done q last
   stays_written error refused q last is stops =
       let part = take (piece_len (address + error.done) (length bytes - error.done)) (drop error.done bytes) in
-      let denied : DeniesWrite settings lanes device (address + error.done) part stops.before stops.place
+      let denied : DeniesWrite settings lanes at.0 at.1 (address + error.done) part stops.before stops.place
       (tried.NotNow refused) q last =
-      subst (λ (c : TryError PortCause). DeniesWrite settings lanes device (address + error.done) part stops.before
+      subst (λ (c : TryError PortCause). DeniesWrite settings lanes at.0 at.1 (address + error.done) part stops.before
       stops.place c q last) is stops.denied in
-      subst (λ (l : Option ℕ). HasWritten settings device address bytes first error.done q l) (sym denied.1)
-      (written_later settings device address bytes first error.done stops.before q stops.place stops.written stops.same
-      (commit_sees lanes (view_of stops.before) (view_of q) refused denied.0))
+      subst (λ (l : Option ℕ). HasWritten settings at.0 at.1 address bytes first error.done q l) (sym denied.2)
+      (written_later settings at.0 at.1 address bytes first error.done stops.before q stops.place stops.written stops.same
+      (commit_sees lanes (view_of stops.before.pass) (view_of q.pass) refused denied.0) denied.1)
 
 module _ {A : Type 0} {g : CoreGhosts A} where
-  -- what had come so far when p was the pass has come so far when q is
-  abbrev pub HasGoneOn : Settings → DeviceNo → ℕ → List ℕ → ℕ → CorePass A g → Option ℕ → ℕ → CorePass A g → Option ℕ
+  -- what had come so far when the port stood as p has come so far when it stands as q
+  abbrev pub HasGoneOn : Settings → DeviceNo → ℕ → ℕ → List ℕ → ℕ → Standing A g → Option ℕ → ℕ → Standing A g → Option ℕ
       → Type 0
-  HasGoneOn settings device address bytes done p last done' q last' =
-      (first : CorePass A g) → HasWritten settings device address bytes first done p last
-      → HasWritten settings device address bytes first done' q last'
+  HasGoneOn settings device most address bytes done p last done' q last' =
+      (first : Standing A g) → HasWritten settings device most address bytes first done p last
+      → HasWritten settings device most address bytes first done' q last'

@@ -21,23 +21,20 @@ use Rattle.lane_lock.specs.History.{Legal, StartsWith, made_by}
 use Rattle.lane_lock.specs.Outcomes.{OnlySees}
 use Rattle.lane_lock.specs.Passes.{SamePass, number_of, view_of}
 use Rattle.server_state.specs.Choice.{IsLooked}
-use Rattle.shared_iommufd.specs.Applied.{IsApplied}
-use Rattle.shared_iommufd.specs.Entries.{history_of, maker_of, told}
-use Rattle.shared_iommufd.specs.Ioctls.{AnswersRanges, AnswersSet, IsTold, TellsRanges}
+use Rattle.guarded_core.specs.Applied.{IsApplied}
+use Rattle.guarded_core.specs.Entries.{history_of, maker_of, told}
+use Rattle.guarded_core.specs.Told.{TellsRanges}
+use Rattle.shared_iommufd.specs.Ioctls.{AnswersRanges, AnswersSet, IsTold}
 use Rattle.shared_iommufd.specs.Made.{Makes}
-use Rattle.shared_iommufd.specs.Passes.{CoreGhosts, CorePass}
+use Rattle.guarded_core.specs.Passes.{CoreGhosts, CorePass}
 use Rattle.shared_iommufd.specs.Seen.{AreNotices, HasSeen, IsAnswered}
-use Rattle.shared_iommufd.specs.Told.{TellsNotices}
+use Rattle.guarded_core.specs.Told.{TellsNotices}
 use Rattle.shared_iommufd.specs.declared.ioctl_answer.IoctlAnswer.{IoctlAnswer}
-use Rattle.shared_iommufd.specs.declared.kept_core.Entry.{Entry}
-use Rattle.shared_iommufd.specs.declared.kept_core.Entry.TheVariants as entry
-use Rattle.shared_iommufd.proofs.Entered.{is_history, one_entry, same_settings, told_more}
+use Rattle.guarded_core.specs.declared.kept_core.Entry.{Entry}
+use Rattle.guarded_core.specs.declared.kept_core.Entry.TheVariants as entry
+use Rattle.guarded_core.proofs.Entered.{starts_so, is_history, one_entry, same_settings, told_more}
 
 module _ {A : Type 0} where
-  -- the history begins with what begins what it begins with
-  pub starts_so : (h b a : List (Entry A)) → StartsWith h b → StartsWith b a → StartsWith h a
-  starts_so h b a s t = (t.0 ++ s.0, s.1 ∙ (ap (λ (l : List (Entry A)). l ++ s.0) t.1 ∙ append_assoc a t.0 s.0))
-
   -- what is answered to the core's word on ranges tells the ranges of its world
   answers_ranges : {Z : Type 0} (h : History A) (file : FileNo) (request : RangesRequest)
       (ranges : Result (RangeSet Z) CallError) (answer : IoctlAnswer A) → TellsRanges Z h file request.ioas ranges
@@ -113,14 +110,14 @@ module _ {A : Type 0} {g : CoreGhosts A} where
 
   -- The pass is p as the call begins, q before the act and r after it; the core tells old before the act, and new after
   -- it.
-  pub makes : (settings : Settings) (o old new : History A) (p q r : CorePass A g) (act : Act A) (stamp : Stamp)
+  pub makes_from : (settings : Settings) (o old new : History A) (p q r : CorePass A g) (act : Act A) (stamp : Stamp)
       (x : Entry A) → o.settings ≡ settings → o.records ≡ [] → StartsWith (told old) (told o) → SamePass p q
       → OnlySees (view_of p) (view_of q) → StartsWith (told old) (view_of q).seen
       → made_by maker_of (number_of q) (drop (length (told o)) (told old)) ≡ (view_of q).made
       → IsApplied (record { 0 = number_of q }) act stamp old new → (view_of r).seen ≡ told new
       → (view_of r).seen ≡ told old ++ x ∷ [] → (view_of r).made ≡ (view_of q).made ++ x ∷ []
-      → Makes settings p act stamp r
-  makes settings o old new p q r act stamp x opened fresh starts same sees later mine applied seen grown own =
+      → (m : Makes settings p act stamp r) × (m.before ≡ old.records)
+  makes_from settings o old new p q r act stamp x opened fresh starts same sees later mine applied seen grown own =
       let e : old.settings ≡ settings = same_settings old o starts ∙ opened in
       let was : old ≡ history_of settings old.records = is_history old settings e in
       let made = applied.one_more.made in
@@ -129,19 +126,31 @@ module _ {A : Type 0} {g : CoreGhosts A} where
       more ∙ is_history (record old { records = old.records ++ made ∷ [] }) settings e in
       let both : told old ++ x ∷ [] ≡ told old ++ entry.Made made ∷ [] =
       sym grown ∙ (seen ∙ (ap (told {A = A}) more ∙ told_more old made)) in
-      let last : x ∷ [] ≡ entry.Made made ∷ [] = append_cancel_left (told old) (x ∷ []) (entry.Made made ∷ []) both in
-      record {
-        before = old.records;
-        made = made;
-        later = subst (λ (h : History A). StartsWith (told h) (view_of p).seen) was
-            (starts_so (told old) (view_of q).seen (view_of p).seen later sees.later);
-        mine = subst (λ (c : ℕ × ℕ × List (Entry A)). made_by maker_of c.0 (drop c.1 (told old)) ≡ c.2)
-            (λ i. (same.number i, one_entry o fresh i, sees.made i)) mine;
-        applied = subst (λ (c : ℕ × History A × History A). IsApplied (record { 0 = c.0 }) act stamp c.1 c.2)
-            (λ i. (same.number i, was i, is i)) applied;
-        seen = seen ∙ ap (told {A = A}) is;
-        own = own ∙ (λ i. sees.made i ++ last i);
-      }
+      let last : x ∷ [] ≡ entry.Made made ∷ [] = append_cancel_left (told old) (x ∷ []) (entry.Made made ∷ []) both in (
+        record {
+          before = old.records;
+          made = made;
+          later = subst (λ (h : History A). StartsWith (told h) (view_of p).seen) was
+              (starts_so (told old) (view_of q).seen (view_of p).seen later sees.later);
+          mine = subst (λ (c : ℕ × ℕ × List (Entry A)). made_by maker_of c.0 (drop c.1 (told old)) ≡ c.2)
+              (λ i. (same.number i, one_entry o fresh i, sees.made i)) mine;
+          applied = subst (λ (c : ℕ × History A × History A). IsApplied (record { 0 = c.0 }) act stamp c.1 c.2)
+              (λ i. (same.number i, was i, is i)) applied;
+          seen = seen ∙ ap (told {A = A}) is;
+          own = own ∙ (λ i. sees.made i ++ last i);
+        },
+        refl,
+      )
+
+  pub makes : (settings : Settings) (o old new : History A) (p q r : CorePass A g) (act : Act A) (stamp : Stamp)
+      (x : Entry A) → o.settings ≡ settings → o.records ≡ [] → StartsWith (told old) (told o) → SamePass p q
+      → OnlySees (view_of p) (view_of q) → StartsWith (told old) (view_of q).seen
+      → made_by maker_of (number_of q) (drop (length (told o)) (told old)) ≡ (view_of q).made
+      → IsApplied (record { 0 = number_of q }) act stamp old new → (view_of r).seen ≡ told new
+      → (view_of r).seen ≡ told old ++ x ∷ [] → (view_of r).made ≡ (view_of q).made ++ x ∷ []
+      → Makes settings p act stamp r
+  makes settings o old new p q r act stamp x opened fresh starts same sees later mine applied seen grown own =
+      (makes_from settings o old new p q r act stamp x opened fresh starts same sees later mine applied seen grown own).0
 
   -- a pass is itself, and has seen what it has seen
   pub same_pass : (p : CorePass A g) → SamePass p p
@@ -155,8 +164,3 @@ module _ {A : Type 0} {g : CoreGhosts A} where
     made = refl;
     later = ([], sym (append-nil (view_of p).seen));
   }
-
--- what follows of the value of `Ok`
-pub if_ok : {X E : Type 0} (r : Result X E) (P Q : X → Type 0) → IfOk r P → ((x : X) → P x → Q x) → IfOk r Q
-if_ok (Ok x) P Q p follows = follows x p
-if_ok (Err e) P Q p follows = tt

@@ -5,9 +5,9 @@ use Rattle.iommufd_core.specs.History.{History}
 use Rattle.lane_lock.specs.Ending.{HasNumber}
 use Rattle.lane_lock.specs.History.{Legal, made_by}
 use Rattle.lane_lock.specs.Passes.{number_of, view_of}
-use Rattle.shared_iommufd.specs.Entries.{maker_of, told}
-use Rattle.shared_iommufd.specs.Opening.{opened_with}
-use Rattle.shared_iommufd.specs.Passes.{CoreGhosts, CoreLock, CorePass}
+use Rattle.guarded_core.specs.Entries.{maker_of, told}
+use Rattle.guarded_core.specs.Opening.{opened_with}
+use Rattle.guarded_core.specs.Passes.{CoreGhosts, CoreLock, CorePass}
 
 module _ {A : Type 0} {g : CoreGhosts A} where
   -- The records of the server's core are a run of its settings. All passes are there, and of the records those of each

@@ -5,10 +5,10 @@ use Rattle.iofd_words.specs.declared.event.Act.{Act}
 use Rattle.iommufd_core.specs.declared.apply.Stamp.{Stamp}
 use Rattle.lane_lock.specs.Ending.{IsNotAll}
 use Rattle.shared_iommufd.specs.Ends.{Ends}
-use Rattle.shared_iommufd.specs.Passes.{CoreGhosts, CorePass}
+use Rattle.guarded_core.specs.Passes.{CoreGhosts, CorePass}
 use Rattle.shared_iommufd.specs.declared.error.CloseError.{CloseError}
 use Rattle.shared_iommufd.specs.declared.error.CloseError.TheVariants as refusal
-use Rattle.shared_iommufd.specs.declared.kept_core.Entry.{Entry}
+use Rattle.guarded_core.specs.declared.kept_core.Entry.{Entry}
 use Rattle.shared_iommufd.specs.declared.server.Server.{Server}
 
 -- server and passes come back, since a pass is missing; or a share of the core, as it is at the end

@@ -31,13 +31,14 @@ use Rattle.iova_ranges.specs.declared.range_set.RangeSet.{RangeSet}
 use Rattle.lane_lock.specs.Outcomes.{OnlySees, RefusesRead}
 use Rattle.lane_lock.specs.Passes.{view_of}
 use Rattle.lane_lock.specs.declared.table.View.{View}
-use Rattle.shared_iommufd.specs.Entries.{history_of}
-use Rattle.shared_iommufd.specs.Guarded.{RefusesCommit}
+use Rattle.guarded_core.specs.Entries.{history_of}
+use Rattle.guarded_core.specs.Guarded.{RefusesCommit}
 use Rattle.shared_iommufd.specs.Made.{Makes}
-use Rattle.shared_iommufd.specs.Passes.{CoreGhosts, CorePass}
+use Rattle.guarded_core.specs.Told.{TellsRanges}
+use Rattle.guarded_core.specs.Passes.{CoreGhosts, CorePass}
 use Rattle.shared_iommufd.specs.Seen.{HasSeen}
-use Rattle.shared_iommufd.specs.declared.error.TryError.{TryError}
-use Rattle.shared_iommufd.specs.declared.error.TryError.TheVariants as tried
+use Rattle.guarded_core.specs.declared.try_error.TryError.{TryError}
+use Rattle.guarded_core.specs.declared.try_error.TryError.TheVariants as tried
 use Rattle.shared_iommufd.specs.declared.ioctl_answer.IoctlAnswer.{IoctlAnswer}
 
 module _ {A : Type 0} where
@@ -52,13 +53,6 @@ module _ {A : Type 0} where
   -- it is answered so
   abbrev pub AnswersEvent : Event A → Reply → IoctlAnswer A → Type 0
   AnswersEvent e reply answer = Answers answer (errno_of reply) (event_written_back e reply)
-
-  -- these are the usable ranges in the world of the history, few enough to be counted, or why there are none
-  pub record TellsRanges (Z : Type 0) (h : History A) (file : FileNo) (ioas : ObjId)
-      (told : Result (RangeSet Z) CallError) : Type 0 where
-    pub refused : refused_cause told ≡ first_true (ranges_checks (view (world h)) file ioas)
-    pub ranges : IfOk told (λ set. AreUsableRanges (view (world h)) file ioas set.spans)
-    pub few : IfOk told (λ set. length set.spans < 2 ^ 32)
 
   -- and so is what a core tells of ranges: the list of them, or why there is none
   abbrev pub AnswersSet : (Z : Type 0) → RangesRequest → Result (RangeSet Z) CallError → IoctlAnswer A → Type 0

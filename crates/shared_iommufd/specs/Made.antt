@@ -7,10 +7,10 @@ use Rattle.iofd_words.specs.declared.record.Record.{Record}
 use Rattle.iommufd_core.specs.declared.apply.Stamp.{Stamp}
 use Rattle.lane_lock.specs.History.{StartsWith, made_by}
 use Rattle.lane_lock.specs.Passes.{number_of, view_of}
-use Rattle.shared_iommufd.specs.Applied.{IsApplied}
-use Rattle.shared_iommufd.specs.Entries.{history_of, maker_of, told}
-use Rattle.shared_iommufd.specs.Passes.{CoreGhosts, CorePass}
-use Rattle.shared_iommufd.specs.declared.kept_core.Entry.TheVariants as entry
+use Rattle.guarded_core.specs.Applied.{IsApplied}
+use Rattle.guarded_core.specs.Entries.{history_of, maker_of, told}
+use Rattle.guarded_core.specs.Passes.{CoreGhosts, CorePass}
+use Rattle.guarded_core.specs.declared.kept_core.Entry.TheVariants as entry
 
 -- the act that applies an event, with no cached frame
 abbrev pub act_of : {A : Type 0} → Event A → Act A

@@ -14,11 +14,11 @@ use Rattle.lane_lock.specs.History.{Legal}
 use Rattle.lane_lock.specs.Outcomes.{RefusesRead}
 use Rattle.lane_lock.specs.Passes.{lane_of, number_of, view_of}
 use Rattle.server_state.specs.Choice.{IsLooked}
-use Rattle.shared_iommufd.specs.Entries.{history_of, maker_of, told}
-use Rattle.shared_iommufd.specs.Passes.{CoreGhosts, CorePass}
-use Rattle.shared_iommufd.specs.Told.{TellsNotices}
-use Rattle.shared_iommufd.specs.declared.error.TryError.{TryError}
-use Rattle.shared_iommufd.specs.declared.error.TryError.TheVariants as tried
+use Rattle.guarded_core.specs.Entries.{history_of, maker_of, told}
+use Rattle.guarded_core.specs.Passes.{CoreGhosts, CorePass}
+use Rattle.guarded_core.specs.Told.{TellsNotices}
+use Rattle.guarded_core.specs.declared.try_error.TryError.{TryError}
+use Rattle.guarded_core.specs.declared.try_error.TryError.TheVariants as tried
 
 module _ {A : Type 0} {g : CoreGhosts A} where
   -- the pass has seen just these records of a server that was opened with the settings; they are a run, and legal for

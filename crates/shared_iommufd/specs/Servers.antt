@@ -2,8 +2,8 @@
 use Rattle.iofd_words.specs.Settings.{Settings}
 use Rattle.lane_lock.specs.Passes.{Owns}
 use Rattle.shared_iommufd.specs.declared.server.Server.{Server}
-use Rattle.shared_iommufd.specs.Opening.{opened_with}
-use Rattle.shared_iommufd.specs.Passes.{CoreGhosts, CorePass}
+use Rattle.guarded_core.specs.Opening.{opened_with}
+use Rattle.guarded_core.specs.Passes.{CoreGhosts, CorePass}
 
 -- what the server was opened with
 abbrev pub settings_of : {A : Type 0} → Server A → Settings

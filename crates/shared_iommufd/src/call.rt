@@ -1,8 +1,7 @@
 //! Calls that change something: each makes one record.
 
-use crate::error::TryError;
-use crate::guarded::{commit, try_commit};
 use crate::server::{Pass, Server};
+use guarded_core::{TryError, commit, try_commit};
 use iofd_words::{Act, NoMemory};
 use iommufd_core::Stamp;
 use lane_lock::CommitError;
@@ -13,9 +12,9 @@ impl<A: Allocator + Copy> Server<A> {
     ghost use Rattle.std.specs.Prelude.{◌≡◌, false, IfErr, IfOk, OnErr, None};
     ghost use Rattle.lane_lock.specs.Outcomes.{OnlySees};
     ghost use Rattle.lane_lock.specs.Passes.{SamePass, lanes_of, view_of};
-    ghost use Rattle.shared_iommufd.specs.Guarded.{RefusesCommit};
+    ghost use Rattle.guarded_core.specs.Guarded.{RefusesCommit};
     ghost use Rattle.shared_iommufd.specs.Made.{Makes};
-    ghost use Rattle.shared_iommufd.specs.OfPort.{event_of_port};
+    ghost use Rattle.guarded_core.specs.OfPort.{event_of_port};
     ghost use Rattle.shared_iommufd.specs.Servers.{IsPassOf, settings_of};
 
     // Makes the record of an event, once all lanes can be had; that of a port too.

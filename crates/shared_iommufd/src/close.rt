@@ -1,8 +1,8 @@
 //! The end of a server.
 
 use crate::error::CloseError;
-use crate::kept_core::KeptCore;
 use crate::server::{Pass, Server};
+use guarded_core::KeptCore;
 use iommufd_core::Core;
 use lane_lock::CloseError as LockError;
 use std::alloc::Allocator;

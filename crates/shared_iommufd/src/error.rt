@@ -1,7 +1,7 @@
 //! Why a call of a shared server fails.
 
-use crate::kept_core::KeptCore;
 use crate::server::{Pass, Server};
+use guarded_core::KeptCore;
 use iofd_words::{Fault, NoMemory, Refusal};
 use lane_lock::{Kept, NotNow};
 use std::alloc::{Allocator, Global};
@@ -16,15 +16,6 @@ pub enum ConfigError {
     Cache,
     /// There was no memory for the server.
     Memory,
-}
-
-/// Why a call that doesn't wait did nothing.
-#[derive(Clone, Copy, PartialEq, Eq, Debug)]
-pub enum TryError<E> {
-    /// A lane is held, or the lane of the pass is empty: the call can't be served now.
-    NotNow(NotNow),
-    /// The call was served, and failed.
-    Call(E),
 }
 
 /// Why a piece of a port's read or write didn't pass.

@@ -6,11 +6,9 @@ ghost use Rattle.ioctl_codec.specs.Events.{ranges_errno};
 ghost use Rattle.ioctl_codec.specs.Spelling.{ranges_written_back};
 ghost use Rattle.shared_iommufd.specs.Ioctls.{Answers, AnswersEvent, AnswersSet, event_written_back};
 
-use crate::error::TryError;
-use crate::guarded::{show, try_show};
 use crate::ioctl_answer::IoctlAnswer;
-use crate::kept_core::KeptCore;
 use crate::server::{Pass, Server};
+use guarded_core::{KeptCore, TryError, show, try_show};
 use ioctl_codec::{
     Asked, Command, DecodeError, RangesRequest, decode, encode_ranges, encode_reply_to, errno_of,
     ranges_errno,
@@ -105,7 +103,7 @@ impl<A: Allocator + Copy> Server<A> {
     ghost use Rattle.ioctl_codec.specs.Events.{asked};
     ghost use Rattle.lane_lock.specs.Outcomes.{OnlySees};
     ghost use Rattle.lane_lock.specs.Passes.{SamePass, lane_of, lanes_of, view_of};
-    ghost use Rattle.shared_iommufd.specs.Guarded.{RefusesCommit};
+    ghost use Rattle.guarded_core.specs.Guarded.{RefusesCommit};
     ghost use Rattle.shared_iommufd.specs.Ioctls.{IsDecoded, IsMade, IsServed, IsTold};
     ghost use Rattle.shared_iommufd.specs.Ioctls.{RefusesIoctl, RefusesLook};
     ghost use Rattle.shared_iommufd.specs.Servers.{IsPassOf, settings_of};

@@ -3,13 +3,13 @@
 //! that its pass has then seen.
 #![tactic(auto)]
 
+mod accessing;
 mod call;
 mod close;
 mod error;
-mod guarded;
 mod ioctl;
 mod ioctl_answer;
-mod kept_core;
+mod key_list;
 mod limits;
 mod look;
 mod notices;
@@ -22,10 +22,10 @@ mod port_turns;
 mod port_write;
 mod server;
 
-pub use error::{CloseError, ConfigError, PortCause, PortError, TryError};
+pub use error::{CloseError, ConfigError, PortCause, PortError};
+pub use guarded_core::{Entry, KeptCore, TryError};
 pub use ioctl_answer::IoctlAnswer;
 pub use iommufd_core::{Core, Stamp};
-pub use kept_core::{Entry, KeptCore};
 pub use lane_lock::{Busy, NotNow};
 pub use of_port::{is_event_of_port, is_query_of_port};
 pub use port::Port;

@@ -1,8 +1,7 @@
 //! Questions, which make no record.
 
-use crate::guarded::{show, try_show};
-use crate::kept_core::KeptCore;
 use crate::server::{Pass, Server};
+use guarded_core::{KeptCore, show, try_show};
 use iofd_words::{Answer, Query};
 use lane_lock::NotNow;
 use std::alloc::Allocator;
@@ -12,7 +11,7 @@ impl<A: Allocator + Copy> Server<A> {
     ghost use Rattle.std.specs.Prelude.{◌≡◌, false, IfErr, IfOk};
     ghost use Rattle.lane_lock.specs.Outcomes.{OnlySees, RefusesRead};
     ghost use Rattle.lane_lock.specs.Passes.{SamePass, lane_of, view_of};
-    ghost use Rattle.shared_iommufd.specs.OfPort.{query_of_port};
+    ghost use Rattle.guarded_core.specs.OfPort.{query_of_port};
     ghost use Rattle.shared_iommufd.specs.Seen.{IsAnswered};
     ghost use Rattle.shared_iommufd.specs.Servers.{IsPassOf, settings_of};
 
@@ -29,18 +28,6 @@ impl<A: Allocator + Copy> Server<A> {
         show(rt, &self.lock, pass, &|kept: &KeptCore<A>| kept.look(query))
     }
 
-    // Answers a question without waiting, that of a port too.
-    pub(crate) fn try_ask(&self, pass: &mut Pass<A>, query: &Query) -> Result<Answer, NotNow>
-        requires { IsPassOf self.now pass.old }
-        ensures same_pass { SamePass pass.old pass.new }
-        ensures owned { IsPassOf self.now pass.new }
-        ensures sees { OnlySees (view_of pass.old) (view_of pass.new) }
-        ensures answer { IfOk result (IsAnswered (settings_of self.now) pass.new query.now) }
-        ensures refused { IfErr result (RefusesRead (view_of pass.old) (view_of pass.new) (lane_of pass.old)) }
-    {
-        try_show(&self.lock, pass, &|kept: &KeptCore<A>| kept.look(query))
-    }
-
     /// The same without waiting. NotNow where the lane of the pass is held or empty: then the pass has seen what it had
     /// seen.
     pub fn try_look(&self, pass: &mut Pass<A>, query: &Query) -> Result<Answer, NotNow>
@@ -52,6 +39,6 @@ impl<A: Allocator + Copy> Server<A> {
         ensures answer { IfOk result (IsAnswered (settings_of self.now) pass.new query.now) }
         ensures refused { IfErr result (RefusesRead (view_of pass.old) (view_of pass.new) (lane_of pass.old)) }
     {
-        self.try_ask(pass, query)
+        try_show(&self.lock, pass, &|kept: &KeptCore<A>| kept.look(query))
     }
 }

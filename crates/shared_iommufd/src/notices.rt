@@ -1,9 +1,7 @@
 //! The question for an access object's notices, whose answer takes memory.
 
-use crate::error::TryError;
-use crate::guarded::{show, try_show};
-use crate::kept_core::KeptCore;
 use crate::server::{Pass, Server};
+use guarded_core::{KeptCore, TryError, show, try_show};
 use iofd_words::{CallError, FileNo, ObjId, Span};
 use std::alloc::Allocator;
 use std::sync::Wait;

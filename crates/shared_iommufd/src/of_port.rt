@@ -1,7 +1,7 @@
 //! What a device's port asks for alone, since a port keeps translations that others must not make stale unseen.
 
 ghost use Rattle.std.specs.Prelude.{◌≡◌};
-ghost use Rattle.shared_iommufd.specs.OfPort.{event_of_port, query_of_port};
+ghost use Rattle.guarded_core.specs.OfPort.{event_of_port, query_of_port};
 
 use iofd_words::{Event, Query};
 use std::alloc::Allocator;
@@ -18,12 +18,12 @@ pub fn is_event_of_port<A: Allocator>(event: &Event<A>) -> bool
     }
 }
 
-/// Whether the question is one that a port alone asks: its device's read.
+/// Whether the question is one that a port alone asks: its device's read, by a walk or at a frame that was kept, or a walk.
 pub fn is_query_of_port(query: &Query) -> bool
     ensures { result ≡ query_of_port query.now }
 {
     match query {
-        Query::DeviceRead { .. } => true,
+        Query::DeviceRead { .. } | Query::WalkFor { .. } | Query::CachedRead { .. } => true,
         _ => false,
     }
 }

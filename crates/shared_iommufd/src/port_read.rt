@@ -3,11 +3,13 @@
 ghost use Rattle.std.specs.Prelude.{◌≡◌, IfErr, OnErr, OnOk, length};
 ghost use Rattle.shared_iommufd.specs.PortReads.{IsDenial, IsReadAnswer};
 
-use crate::error::{PortCause, PortError, TryError};
+use crate::error::{PortCause, PortError};
 use crate::pieces::piece_len;
 use crate::port::Port;
 use crate::server::Server;
-use iofd_words::{Answer, Iova, Query};
+use guarded_core::TryError;
+use iofd_words::{Answer, Iova};
+use lane_lock::NotNow;
 use std::alloc::Allocator;
 use std::sync::Wait;
 use std::thread;
@@ -26,21 +28,26 @@ fn put(piece: &mut [u8], answer: &Answer) -> Result<(), PortCause>
         }
         Answer::Fault(fault) => Err(PortCause::Fault(*fault)),
         Answer::Refused(refusal) => Err(PortCause::Refused(*refusal)),
-        Answer::Count(_) | Answer::Attached(_) => unreachable!(),
+        Answer::Count(_) | Answer::Attached(_) | Answer::Walk(_) => unreachable!(),
     }
 }
 
 impl<A: Allocator + Copy> Port<A> {
-    ghost use Rattle.std.specs.Prelude.{◌+◌, ◌<◌, ◌≤◌, ◌^◌, IfOk};
+    ghost use Rattle.std.specs.Prelude.{◌+◌, ◌<◌, ◌≤◌, ◌^◌, false, IfOk};
+    ghost use Rattle.iofd_words.specs.Pages.{crosses};
     ghost use Rattle.lane_lock.specs.Outcomes.{OnlySees};
     ghost use Rattle.lane_lock.specs.Passes.{view_of};
-    ghost use Rattle.shared_iommufd.specs.Ports.{IsPortOf, SamePort};
+    ghost use Rattle.shared_iommufd.specs.Ports.{IsPortOf, SamePort, most_of, standing_of};
     ghost use Rattle.shared_iommufd.specs.PortReads.{DeniesRead, IsReadSo, Reads, ReadsOn, as_tried};
     ghost use Rattle.shared_iommufd.specs.Servers.{settings_of};
 
     /// Reads bytes of the device's memory, from the address on, as many as the buffer has. They are read in pieces, cut
     /// at pages and at 64 bytes, each as of all records that the port's pass has then seen, once its lane can be had.
-    /// It makes no record and takes no memory, and for an empty buffer no lane.
+    /// It makes no record, and for an empty buffer takes no lane.
+    ///
+    /// A page that the port keeps, with the right to read, is read at the frame that it keeps, though its area may be
+    /// leaving; of any other the server asks the page table, and the port keeps what it finds. Where there is no memory
+    /// for that, the page is read all the same.
     ///
     /// The error is how many bytes were read before the first piece that wasn't, and why: it was refused, as Id (11,
     /// ENOENT) where the device isn't bound and InterruptRange (27, EINVAL), or denied; never want of memory. The rest
@@ -56,10 +63,10 @@ impl<A: Allocator + Copy> Port<A> {
         ensures same_port { SamePort self.old self.new }
         ensures owned { IsPortOf server.now self.new }
         ensures sees { OnlySees (view_of self.old.pass) (view_of self.new.pass) }
-        ensures reads { Reads (settings_of server.now) self.old.device iova.0 buffer.old self.old.pass
-            (as_tried result) self.new.pass buffer.new }
+        ensures reads { Reads (settings_of server.now) self.old.device (most_of self.old) iova.0 buffer.old
+            (standing_of self.old) (as_tried result) (standing_of self.new) buffer.new }
         ensures last { self.new.last ≡ None }
-        ensures idle { length buffer.old ≡ 0 → self.new.pass ≡ self.old.pass }
+        ensures idle { length buffer.old ≡ 0 → standing_of self.new ≡ standing_of self.old }
     {
         self.last = None;
         let mut done = 0;
@@ -93,10 +100,10 @@ impl<A: Allocator + Copy> Port<A> {
         ensures same_port { SamePort self.old self.new }
         ensures owned { IsPortOf server.now self.new }
         ensures sees { OnlySees (view_of self.old.pass) (view_of self.new.pass) }
-        ensures reads { Reads (settings_of server.now) self.old.device iova.0 buffer.old self.old.pass result
-            self.new.pass buffer.new }
+        ensures reads { Reads (settings_of server.now) self.old.device (most_of self.old) iova.0 buffer.old
+            (standing_of self.old) result (standing_of self.new) buffer.new }
         ensures last { self.new.last ≡ None }
-        ensures idle { length buffer.old ≡ 0 → self.new.pass ≡ self.old.pass }
+        ensures idle { length buffer.old ≡ 0 → standing_of self.new ≡ standing_of self.old }
     {
         self.last = None;
         self.read_on(server, iova, buffer, 0)
@@ -116,10 +123,10 @@ impl<A: Allocator + Copy> Port<A> {
         ensures same_port { SamePort self.old self.new }
         ensures owned { IsPortOf server.now self.new }
         ensures sees { OnlySees (view_of self.old.pass) (view_of self.new.pass) }
-        ensures reads { ReadsOn (settings_of server.now) self.old.device iova.0 self.old.pass done buffer.old result
-            self.new.pass buffer.new }
+        ensures reads { ReadsOn (settings_of server.now) self.old.device (most_of self.old) iova.0
+            (standing_of self.old) done buffer.old result (standing_of self.new) buffer.new }
         ensures last { self.new.last ≡ self.old.last }
-        ensures idle { done ≡ length buffer.old → self.new.pass ≡ self.old.pass }
+        ensures idle { done ≡ length buffer.old → standing_of self.new ≡ standing_of self.old }
         ensures within { IfErr result (λ e. e.done < length buffer.old) }
         ensures fits { IfErr result (λ e. iova.0 + e.done < 2 ^ 64) }
     {
@@ -134,7 +141,7 @@ impl<A: Allocator + Copy> Port<A> {
         Ok(())
     }
 
-    // Reads one piece, of 1 to 64 bytes, or says why it isn't read.
+    // Reads one piece, or says why it isn't read.
     fn read_piece(
         &mut self,
         server: &Server<A>,
@@ -143,28 +150,46 @@ impl<A: Allocator + Copy> Port<A> {
     ) -> Result<(), TryError<PortCause>>
         requires owned { IsPortOf server.now self.old }
         requires few { length piece.old ≤ 64 }
+        requires inside { crosses address (length piece.old) ≡ false }
         ensures same_port { SamePort self.old self.new }
         ensures owned { IsPortOf server.now self.new }
         ensures sees { OnlySees (view_of self.old.pass) (view_of self.new.pass) }
-        ensures read { IfOk result (λ _. IsReadSo (settings_of server.now) self.old.device address (length piece.old)
-            self.old.pass (Answer.Read piece.new) self.new.pass) }
+        ensures read { IfOk result (λ _. IsReadSo (settings_of server.now) self.old.device (most_of self.old) address
+            (length piece.old) (standing_of self.old) (Answer.Read piece.new) (standing_of self.new)) }
         ensures low { IfOk result (λ _. address < 2 ^ 48) }
-        ensures denied { IfErr result (λ cause. DeniesRead (settings_of server.now) self.old.device address
-            (length piece.old) self.old.pass cause self.new.pass) }
+        ensures denied { IfErr result (λ cause. DeniesRead (settings_of server.now) self.old.device (most_of self.old)
+            address (length piece.old) (standing_of self.old) cause (standing_of self.new)) }
         ensures kept { OnErr result (piece.new ≡ piece.old) }
         ensures last { self.new.last ≡ self.old.last }
     {
-        let query = Query::DeviceRead {
-            device: self.device,
-            iova: Iova(address),
-            len: piece.len() as u8,
-        };
-        match server.try_ask(&mut self.pass, &query) {
+        match self.ask(server, Iova(address), piece.len() as u8) {
             Ok(answer) => match put(piece, &answer) {
                 Ok(()) => Ok(()),
                 Err(cause) => Err(TryError::Call(cause)),
             },
             Err(refused) => Err(TryError::NotNow(refused)),
+        }
+    }
+
+    // Asks for so many bytes in one page under a guard, and keeps what that found.
+    fn ask(&mut self, server: &Server<A>, iova: Iova, len: u8) -> Result<Answer, NotNow>
+        requires owned { IsPortOf server.now self.old }
+        requires inside { crosses iova.0 len ≡ false }
+        ensures same_port { SamePort self.old self.new }
+        ensures owned { IsPortOf server.now self.new }
+        ensures sees { OnlySees (view_of self.old.pass) (view_of self.new.pass) }
+        ensures answered { IfOk result (λ told. IsReadSo (settings_of server.now) self.old.device (most_of self.old)
+            iova.0 len (standing_of self.old) told (standing_of self.new)) }
+        ensures refused { IfErr result (λ refused. DeniesRead (settings_of server.now) self.old.device
+            (most_of self.old) iova.0 len (standing_of self.old) (TryError.NotNow refused) (standing_of self.new)) }
+        ensures last { self.new.last ≡ self.old.last }
+    {
+        match server.try_read_by(&mut self.pass, &self.cache, self.device, iova, len) {
+            Ok((found, answer)) => {
+                self.cache.keep(iova, &found);
+                Ok(answer)
+            }
+            Err(refused) => Err(refused),
         }
     }
 }

@@ -1,11 +1,12 @@
-//! A device's turns by its port: it is flushed, attached or detached, each time by one record.
+//! A device's turns by its port: it is flushed, attached or detached, each time by one record. Before each the port
+//! forgets all pages.
 
 ghost use Rattle.std.specs.Prelude.{◌≡◌};
 ghost use Rattle.shared_iommufd.specs.Made.{place_of};
 
-use crate::error::TryError;
 use crate::port::Port;
 use crate::server::Server;
+use guarded_core::TryError;
 use iofd_words::{Act, Event, NoMemory, ObjId};
 use iommufd_core::Stamp;
 use std::alloc::Allocator;
@@ -25,9 +26,9 @@ impl<A: Allocator + Copy> Port<A> {
     ghost use Rattle.std.specs.Prelude.{IfErr, IfOk, OnErr};
     ghost use Rattle.lane_lock.specs.Outcomes.{OnlySees};
     ghost use Rattle.lane_lock.specs.Passes.{lanes_of, view_of};
-    ghost use Rattle.shared_iommufd.specs.Guarded.{RefusesCommit};
+    ghost use Rattle.guarded_core.specs.Guarded.{RefusesCommit};
     ghost use Rattle.shared_iommufd.specs.Made.{Makes, act_of};
-    ghost use Rattle.shared_iommufd.specs.Ports.{IsPortOf, SamePort};
+    ghost use Rattle.shared_iommufd.specs.Ports.{IsPortOf, KeepsNothing, SamePort};
     ghost use Rattle.shared_iommufd.specs.Servers.{settings_of};
 
     /// The device has forgotten what it had cached: what an UNMAP waits for on its account is done. One record is made,
@@ -41,6 +42,7 @@ impl<A: Allocator + Copy> Port<A> {
         ensures made { IfOk result (λ stamp. Makes (settings_of server.now) self.old.pass
             (act_of (Event.Flush self.old.device)) stamp self.new.pass) }
         ensures none { OnErr result (OnlySees (view_of self.old.pass) (view_of self.new.pass)) }
+        ensures empty { KeepsNothing self.new }
         ensures last { self.new.last ≡ place_of result }
     {
         let event = Event::Flush(self.device);
@@ -57,6 +59,7 @@ impl<A: Allocator + Copy> Port<A> {
             (act_of (Event.Flush self.old.device)) stamp self.new.pass) }
         ensures refused { IfErr result (RefusesCommit (lanes_of server.now.lock) (view_of self.old.pass)
             (view_of self.new.pass)) }
+        ensures empty { KeepsNothing self.new }
         ensures last { self.new.last ≡ place_of result }
     {
         let event = Event::Flush(self.device);
@@ -81,6 +84,7 @@ impl<A: Allocator + Copy> Port<A> {
         ensures made { IfOk result (λ stamp. Makes (settings_of server.now) self.old.pass
             (act_of (Event.Attach self.old.device pt_id)) stamp self.new.pass) }
         ensures none { OnErr result (OnlySees (view_of self.old.pass) (view_of self.new.pass)) }
+        ensures empty { KeepsNothing self.new }
         ensures last { self.new.last ≡ place_of result }
     {
         let event = Event::Attach(self.device, pt_id);
@@ -100,6 +104,7 @@ impl<A: Allocator + Copy> Port<A> {
             (act_of (Event.Attach self.old.device pt_id)) stamp self.new.pass) }
         ensures refused { IfErr result (RefusesCommit (lanes_of server.now.lock) (view_of self.old.pass)
             (view_of self.new.pass)) }
+        ensures empty { KeepsNothing self.new }
         ensures last { self.new.last ≡ place_of result }
     {
         let event = Event::Attach(self.device, pt_id);
@@ -116,6 +121,7 @@ impl<A: Allocator + Copy> Port<A> {
         ensures made { IfOk result (λ stamp. Makes (settings_of server.now) self.old.pass
             (act_of (Event.Detach self.old.device)) stamp self.new.pass) }
         ensures none { OnErr result (OnlySees (view_of self.old.pass) (view_of self.new.pass)) }
+        ensures empty { KeepsNothing self.new }
         ensures last { self.new.last ≡ place_of result }
     {
         let event = Event::Detach(self.device);
@@ -131,6 +137,7 @@ impl<A: Allocator + Copy> Port<A> {
             (act_of (Event.Detach self.old.device)) stamp self.new.pass) }
         ensures refused { IfErr result (RefusesCommit (lanes_of server.now.lock) (view_of self.old.pass)
             (view_of self.new.pass)) }
+        ensures empty { KeepsNothing self.new }
         ensures last { self.new.last ≡ place_of result }
     {
         let event = Event::Detach(self.device);
@@ -150,8 +157,10 @@ impl<A: Allocator + Copy> Port<A> {
         ensures made { IfOk result (λ stamp. Makes (settings_of server.now) self.old.pass (act_of event) stamp
             self.new.pass) }
         ensures none { OnErr result (OnlySees (view_of self.old.pass) (view_of self.new.pass)) }
+        ensures empty { KeepsNothing self.new }
         ensures last { self.new.last ≡ place_of result }
     {
+        self.cache.clear();
         let act = Act { event, via: None };
         let made = server.make(rt, &mut self.pass, &act);
         self.last = place_of(&made);
@@ -167,8 +176,10 @@ impl<A: Allocator + Copy> Port<A> {
             self.new.pass) }
         ensures refused { IfErr result (RefusesCommit (lanes_of server.now.lock) (view_of self.old.pass)
             (view_of self.new.pass)) }
+        ensures empty { KeepsNothing self.new }
         ensures last { self.new.last ≡ place_of result }
     {
+        self.cache.clear();
         let act = Act { event, via: None };
         let made = server.try_make(&mut self.pass, &act);
         self.last = place_of(&made);

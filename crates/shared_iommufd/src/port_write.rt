@@ -1,19 +1,23 @@
 //! A device's writes by its port.
 
-use crate::error::{PortCause, PortError, TryError};
+use crate::error::{PortCause, PortError};
 use crate::pieces::piece_len;
 use crate::port::Port;
 use crate::server::Server;
-use iofd_words::{Act, Burst, Event, Iova, Reply};
+use guarded_core::TryError;
+use iofd_words::{Burst, Iova, NoMemory, Reply};
+use iommufd_core::Stamp;
 use std::alloc::Allocator;
 use std::sync::Wait;
 use std::thread;
 
 impl<A: Allocator + Copy> Port<A> {
-    ghost use Rattle.std.specs.Prelude.{◌≡◌, ◌+◌, ◌<◌, ◌≤◌, ◌^◌, IfErr, IfOk, length};
+    ghost use Rattle.std.specs.Prelude.{◌≡◌, ◌+◌, ◌<◌, ◌≤◌, ◌^◌, false, IfErr, IfOk, OnErr, Some, length};
+    ghost use Rattle.iofd_words.specs.Pages.{crosses};
     ghost use Rattle.iofd_words.specs.declared.numbers.FrameNo.{FrameNo};
-    ghost use Rattle.lane_lock.specs.Passes.{lanes_of};
-    ghost use Rattle.shared_iommufd.specs.Ports.{IsPortOf, SamePort};
+    ghost use Rattle.lane_lock.specs.Passes.{lanes_of, view_of};
+    ghost use Rattle.guarded_core.specs.Guarded.{RefusesCommit};
+    ghost use Rattle.shared_iommufd.specs.Ports.{IsPortOf, KeepsSame, SamePort, most_of, standing_of};
     ghost use Rattle.shared_iommufd.specs.PortReads.{as_tried};
     ghost use Rattle.shared_iommufd.specs.PortWrites.{DeniesWrite, IsWrittenSo, Writes, WritesOn};
     ghost use Rattle.shared_iommufd.specs.Servers.{settings_of};
@@ -21,6 +25,9 @@ impl<A: Allocator + Copy> Port<A> {
     /// Writes these bytes into the device's memory, from the address on. They are written in pieces, cut at pages and
     /// at 64 bytes, each by one record, once all lanes can be had; the first that doesn't pass is the last. Without
     /// bytes it makes no record and takes no lane.
+    ///
+    /// A page that the port keeps, with the right to write, is written at the frame that it keeps, though its area may be
+    /// leaving; of any other the server asks the page table, and the port keeps what it finds, if it has memory for that.
     ///
     /// The error is how many bytes were written before the first piece that wasn't, and why: it was refused, as Id (11,
     /// ENOENT) where the device isn't bound and InterruptRange (27, EINVAL), or denied, which its record says; or
@@ -35,9 +42,9 @@ impl<A: Allocator + Copy> Port<A> {
         requires { IsPortOf server.now self.old }
         ensures same_port { SamePort self.old self.new }
         ensures owned { IsPortOf server.now self.new }
-        ensures writes { Writes (settings_of server.now) (lanes_of server.now.lock) self.old.device iova.0 bytes.now
-            self.old.pass (as_tried result) self.new.pass self.new.last }
-        ensures idle { length bytes.now ≡ 0 → self.new.pass ≡ self.old.pass }
+        ensures writes { Writes (settings_of server.now) (lanes_of server.now.lock) self.old.device (most_of self.old)
+            iova.0 bytes.now (standing_of self.old) (as_tried result) (standing_of self.new) self.new.last }
+        ensures idle { length bytes.now ≡ 0 → standing_of self.new ≡ standing_of self.old }
     {
         self.last = None;
         let mut done = 0;
@@ -70,9 +77,9 @@ impl<A: Allocator + Copy> Port<A> {
         requires { IsPortOf server.now self.old }
         ensures same_port { SamePort self.old self.new }
         ensures owned { IsPortOf server.now self.new }
-        ensures writes { Writes (settings_of server.now) (lanes_of server.now.lock) self.old.device iova.0 bytes.now
-            self.old.pass result self.new.pass self.new.last }
-        ensures idle { length bytes.now ≡ 0 → self.new.pass ≡ self.old.pass }
+        ensures writes { Writes (settings_of server.now) (lanes_of server.now.lock) self.old.device (most_of self.old)
+            iova.0 bytes.now (standing_of self.old) result (standing_of self.new) self.new.last }
+        ensures idle { length bytes.now ≡ 0 → standing_of self.new ≡ standing_of self.old }
     {
         self.last = None;
         self.write_on(server, iova, bytes, 0)
@@ -91,9 +98,10 @@ impl<A: Allocator + Copy> Port<A> {
         requires fits { iova.0 + done < 2 ^ 64 }
         ensures same_port { SamePort self.old self.new }
         ensures owned { IsPortOf server.now self.new }
-        ensures writes { WritesOn (settings_of server.now) (lanes_of server.now.lock) self.old.device iova.0 bytes.now
-            self.old.pass done self.old.last result self.new.pass self.new.last }
-        ensures idle { done ≡ length bytes.now → self.new.pass ≡ self.old.pass }
+        ensures writes { WritesOn (settings_of server.now) (lanes_of server.now.lock) self.old.device
+            (most_of self.old) iova.0 bytes.now (standing_of self.old) done self.old.last result
+            (standing_of self.new) self.new.last }
+        ensures idle { done ≡ length bytes.now → standing_of self.new ≡ standing_of self.old }
         ensures within { IfErr result (λ e. e.done < length bytes.now) }
         ensures fits { IfErr result (λ e. iova.0 + e.done < 2 ^ 64) }
     {
@@ -118,20 +126,21 @@ impl<A: Allocator + Copy> Port<A> {
         requires owned { IsPortOf server.now self.old }
         requires some { 0 < length bytes.now }
         requires few { length bytes.now ≤ 64 }
+        requires inside { crosses address (length bytes.now) ≡ false }
         ensures same_port { SamePort self.old self.new }
         ensures owned { IsPortOf server.now self.new }
         ensures written { IfOk result (λ _. (frame : FrameNo) × IsWrittenSo (settings_of server.now) self.old.device
-            address bytes.now self.old.pass (Reply.Passed frame) self.new.last self.new.pass) }
+            (most_of self.old) address bytes.now (standing_of self.old) (Reply.Passed frame) self.new.last
+            (standing_of self.new)) }
         ensures low { IfOk result (λ _. address < 2 ^ 48) }
         ensures denied { IfErr result (λ cause. DeniesWrite (settings_of server.now) (lanes_of server.now.lock)
-            self.old.device address bytes.now self.old.pass self.old.last cause self.new.pass self.new.last) }
+            self.old.device (most_of self.old) address bytes.now (standing_of self.old) self.old.last cause
+            (standing_of self.new) self.new.last) }
     {
         let Some(burst) = Burst::new(bytes) else {
             unreachable!()
         };
-        let event = Event::DeviceWrite(self.device, Iova(address), burst);
-        let made = server.try_make(&mut self.pass, &Act { event, via: None });
-        match made {
+        match self.make_write(server, Iova(address), burst) {
             Ok(stamp) => {
                 self.last = Some(stamp.at);
                 match stamp.reply {
@@ -143,6 +152,33 @@ impl<A: Allocator + Copy> Port<A> {
             }
             Err(TryError::Call(error)) => Err(TryError::Call(PortCause::Memory(error))),
             Err(TryError::NotNow(refused)) => Err(TryError::NotNow(refused)),
+        }
+    }
+
+    // Makes the record of a write in one page under a guard, and keeps what that found.
+    fn make_write(
+        &mut self,
+        server: &Server<A>,
+        iova: Iova,
+        bytes: Burst,
+    ) -> Result<Stamp, TryError<NoMemory>>
+        requires owned { IsPortOf server.now self.old }
+        requires inside { crosses iova.0 (length bytes) ≡ false }
+        ensures same_port { SamePort self.old self.new }
+        ensures owned { IsPortOf server.now self.new }
+        ensures written { IfOk result (λ stamp. IsWrittenSo (settings_of server.now) self.old.device (most_of self.old)
+            iova.0 bytes (standing_of self.old) stamp.reply (Some stamp.at) (standing_of self.new)) }
+        ensures refused { IfErr result (RefusesCommit (lanes_of server.now.lock) (view_of self.old.pass)
+            (view_of self.new.pass)) }
+        ensures kept { OnErr result (KeepsSame (standing_of self.old) (standing_of self.new)) }
+        ensures last { self.new.last ≡ self.old.last }
+    {
+        match server.try_write_by(&mut self.pass, &self.cache, self.device, iova, bytes) {
+            Ok((found, stamp)) => {
+                self.cache.keep(iova, &found);
+                Ok(stamp)
+            }
+            Err(error) => Err(error),
         }
     }
 }

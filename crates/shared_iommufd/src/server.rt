@@ -2,16 +2,18 @@
 
 ghost use Rattle.std.specs.Prelude.{◌≡◌, []};
 ghost use Rattle.lane_lock.specs.Passes.{passes_of};
-ghost use Rattle.shared_iommufd.specs.Opening.{opened_with};
+ghost use Rattle.guarded_core.specs.Opening.{opened_with};
 
 use crate::error::ConfigError;
-use crate::kept_core::KeptCore;
+use crate::key_list::keys_of;
 use crate::limits::first_outside;
-use crate::port_key::{PortKey, keys_of};
+use crate::port_key::PortKey;
+use guarded_core::KeptCore;
 use iofd_words::Config;
 use iommufd_core::Core;
 use lane_lock::LaneLock;
 use std::alloc::{Allocator, Global};
+use std::num::NonZeroUsize;
 
 /// The right to call a server, for one caller at a time. It carries what was seen of the server's history, and the
 /// records that were made by it.
@@ -35,8 +37,8 @@ impl<A: Allocator + Copy> Server<A> {
     ghost use Rattle.shared_iommufd.specs.Servers.{settings_of};
 
     /// A server with this configuration and no record, as many passes as the configuration says, in the order of their
-    /// numbers, and a key for each of its devices, in theirs. The core takes memory of the first allocator, the lock of
-    /// the second. The limits are 1 to 64 lanes, and 1 to 4096 pages for the cache of a port; nothing is cached yet.
+    /// numbers, and a key for each of its devices, in theirs. The core and the caches of ports take memory of the first
+    /// allocator, the lock of the second. The limits are 1 to 64 lanes, and 1 to 4096 pages for the cache of a port.
     ///
     /// The error is the first of lanes and cache that is outside its limits, or that memory was wanting.
     pub fn new<B: Allocator>(
@@ -45,12 +47,12 @@ impl<A: Allocator + Copy> Server<A> {
         config: &Config<B>,
         lanes: u16,
         cache: u16,
-    ) -> Result<(Server<A>, Vec<Pass<A>>, Vec<PortKey>), ConfigError>
+    ) -> Result<(Server<A>, Vec<Pass<A>>, Vec<PortKey<A>>), ConfigError>
         ensures limits { OnOk result (first_outside lanes cache ≡ None) }
         ensures settings { IfOk result (λ r. settings_of r.0 ≡ config.now) }
         ensures lanes { IfOk result (λ r. lanes_of r.0.lock ≡ lanes) }
         ensures passes { IfOk result (λ r. AllNew r.0.lock config.now.passes r.1.items) }
-        ensures keys { IfOk result (λ r. AllKeys r.0 r.2.items) }
+        ensures keys { IfOk result (λ r. AllKeys r.0 cache r.2.items) }
         ensures refused { IfErr result (IsRefusedFor lanes cache) }
     {
         if let Some(error) = first_outside(lanes, cache) {
@@ -59,7 +61,10 @@ impl<A: Allocator + Copy> Server<A> {
         // Whoever asks a configuration for its pool learns that it is within its limits.
         let _pool = config.pool();
         let passes = config.passes();
-        let Ok(keys) = keys_of(global, config.devices().len()) else {
+        let Some(most) = NonZeroUsize::new(usize::from(cache)) else {
+            unreachable!()
+        };
+        let Ok(keys) = keys_of(alloc, global, config.devices().len(), most) else {
             return Err(ConfigError::Memory);
         };
         let Ok(core) = Core::new(alloc, config) else {

@@ -1,8 +1,8 @@
 -- What holds of each of a list holds of one that is taken off it, and of a list of one what holds of that one.
 use Rattle.std.proofs.Common.{◌≡◌, ℕ, Bool, true, false, cond, List, [], ◌∷◌, ◌++◌, length, slice_get}
-use Rattle.std.proofs.Common.{Option, Some, None, IfSome, subst, zero, suc, sym, ap, ◌∙◌}
+use Rattle.std.proofs.Common.{append-nil, Option, Some, None, IfSome, subst, zero, suc, sym, ap, ◌∙◌}
 use Rattle.std.specs.Option.{option_to_list}
-use Rattle.lane_lock.proofs.PassLists.{last_at}
+use Rattle.lane_lock.proofs.PassLists.{front_at, last_at}
 
 module _ {X : Type 0} (P : X → Type 0) where
   abbrev Each : List X → Type 0
@@ -11,6 +11,10 @@ module _ {X : Type 0} (P : X → Type 0) where
   pub taken : (old new : List X) (o : Option X) → old ≡ new ++ option_to_list o → Each old → IfSome o P
   taken old new None e all = tt
   taken old new (Some x) e all = all (length new) x (last_at old new x e)
+
+  pub left : (old new : List X) (o : Option X) → old ≡ new ++ option_to_list o → Each old → Each new
+  left old new None e all = subst Each (e ∙ append-nil new) all
+  left old new (Some x) e all = λ i y at. all i y (front_at old new x y i e at)
 
   pub alone : (old : List X) (x : X) (b : Bool) → old ≡ [] → P x → Each (cond b (old ++ x ∷ []) old)
   alone old x b none own = subst (λ (l : List X). Each (cond b (l ++ x ∷ []) l)) (sym none) (each b)

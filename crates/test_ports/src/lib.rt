@@ -5,6 +5,8 @@
 #[cfg(test)]
 mod calls;
 #[cfg(test)]
+mod kept_pages;
+#[cfg(test)]
 mod one_port;
 #[cfg(test)]
 mod opened;

@@ -1,7 +1,7 @@
 //! A port of a device is served each kind of call, and its server ends with the records that it made.
 
 ghost use Rattle.std.specs.Prelude.{◌≡◌, false};
-ghost use Rattle.shared_iommufd.specs.OfPort.{event_of_port};
+ghost use Rattle.guarded_core.specs.OfPort.{event_of_port};
 ghost use Rattle.shared_iommufd.specs.Ports.{IsKeyOf, IsPortOf};
 ghost use Rattle.shared_iommufd.specs.Servers.{IsPassOf};
 
@@ -17,7 +17,7 @@ use std::sync::Wait;
 
 const DEVICE: DeviceNo = DeviceNo(1);
 
-const SPACE: ObjId = ObjId(1);
+pub(crate) const SPACE: ObjId = ObjId(1);
 
 const MAP: MapRequest = MapRequest {
     flags: MapFlags(7),
@@ -57,7 +57,7 @@ fn make<R: Wait>(rt: &R, server: &Server, pass: &mut Pass, step: Step) -> bool
     server.call(rt, pass, &act(step)).is_ok()
 }
 
-fn make_all<R: Wait>(rt: &R, server: &Server, pass: &mut Pass) -> bool
+pub(crate) fn make_all<R: Wait>(rt: &R, server: &Server, pass: &mut Pass) -> bool
     requires { IsPassOf server.now pass.old }
     ensures { IsPassOf server.now pass.new }
 {

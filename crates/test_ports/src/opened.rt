@@ -1,4 +1,4 @@
-//! A server with three devices and one pass.
+//! Servers with three devices, and one pass or two.
 
 ghost use Rattle.std.specs.Prelude.{IfSome};
 ghost use Rattle.lane_lock.specs.Passes.{OwnsAll};
@@ -27,14 +27,16 @@ fn devices(alloc: Global) -> Option<Vec<DeviceConfig>> {
 }
 
 // A pool of 16 frames, users of whom the first may have 8 pinned pages and the second 2, two files of user 1 and one of
-// user 2, three devices, and one pass.
-fn config(alloc: Global) -> Option<Config> {
+// user 2, three devices, and so many passes.
+fn config(alloc: Global, passes: u16) -> Option<Config> {
     match (
         [8, 2].to_vec(alloc),
         [UserNo(1), UserNo(1), UserNo(2)].to_vec(alloc),
         devices(alloc),
     ) {
-        (Ok(users), Ok(files), Some(devices)) => Config::new(16, users, files, devices, 1).ok(),
+        (Ok(users), Ok(files), Some(devices)) => Config::new(
+            16, users, files, devices, passes,
+        ).ok(),
         _ => None,
     }
 }
@@ -52,10 +54,11 @@ fn first_key(server: &Server, keys: &mut Vec<PortKey>) -> Option<PortKey>
     }
 }
 
-// The one pass.
-fn only_pass(server: &Server, passes: &mut Vec<Pass>) -> Option<Pass>
+// The last of the passes that are left.
+fn last_pass(server: &Server, passes: &mut Vec<Pass>) -> Option<Pass>
     requires { OwnsAll server.now.lock passes.old.items }
-    ensures { IfSome result (IsPassOf server.now) }
+    ensures taken { IfSome result (IsPassOf server.now) }
+    ensures left { OwnsAll server.now.lock passes.new.items }
 {
     let _ = server;
     passes.pop()
@@ -65,14 +68,32 @@ fn only_pass(server: &Server, passes: &mut Vec<Pass>) -> Option<Pass>
 pub(crate) fn opened(alloc: Global) -> Option<(Server, Pass, PortKey)>
     ensures { IfSome result (λ r. IsPassOf r.0 r.1 × IsKeyOf r.0 r.2) }
 {
-    let config = config(alloc)?;
+    let config = config(alloc, 1)?;
     match Server::new(alloc, alloc, &config, 2, 1) {
         Ok((server, mut passes, mut keys)) => {
             match (
-                only_pass(&server, &mut passes),
+                last_pass(&server, &mut passes),
                 first_key(&server, &mut keys),
             ) {
                 (Some(pass), Some(key)) => Some((server, pass, key)),
+                _ => None,
+            }
+        }
+        Err(_) => None,
+    }
+}
+
+// The server with two passes, and the key of its first device, whose port may keep one page.
+pub(crate) fn opened_by_two(alloc: Global) -> Option<(Server, Pass, Pass, PortKey)>
+    ensures { IfSome result (λ r. IsPassOf r.0 r.1 × IsPassOf r.0 r.2 × IsKeyOf r.0 r.3) }
+{
+    let config = config(alloc, 2)?;
+    match Server::new(alloc, alloc, &config, 2, 1) {
+        Ok((server, mut passes, mut keys)) => {
+            let second = last_pass(&server, &mut passes);
+            let first = last_pass(&server, &mut passes);
+            match (first, second, first_key(&server, &mut keys)) {
+                (Some(first), Some(second), Some(key)) => Some((server, first, second, key)),
                 _ => None,
             }
         }

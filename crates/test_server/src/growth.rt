@@ -1,8 +1,8 @@
 //! Each growth refused in turn: the answer is want of memory, nothing has changed, and the step gives its reply later.
 
 use crate::scripts::{
-    ACCESS, COPIED, COPIES, EMPTIED, NOTICED, ONE_SPACE, ONE_TABLE, PINNED, Parts, RANGES, SPACES,
-    Script, TAKEN_DOWN, TWO_TABLES,
+    ACCESS, BOUND, COPIED, COPIES, EMPTIED, NOTICED, ONE_SPACE, ONE_TABLE, PINNED, PORT, Parts,
+    RANGES, SPACES, Script, TAKEN_DOWN, TWO_TABLES,
 };
 use crate::steps::{Step, answered, config, event, read};
 use iofd_words::{Answer, Config, NoMemory, Query, Reply, UserNo};
@@ -46,7 +46,7 @@ fn seen<A: Allocator>(core: &Core<A>) -> (usize, Answer, Answer, Answer) {
         core.records().len(),
         core.look(&Query::FreeFrames),
         core.look(&Query::Held(UserNo(1))),
-        core.look(&read(0x1ffe, 2)),
+        read(core, 0x1ffe, 2),
     )
 }
 
@@ -190,4 +190,11 @@ static OF_PINS: Run = (5, 43008, &[(ACCESS, 0), (PINNED, 1), (NOTICED, 2)]);
 #[test]
 fn a_refused_growth_of_a_pin_changes_nothing(rt: HostRuntime) {
     assert!(rt; grows(rt.alloc(), OF_PINS));
+}
+
+static OF_A_PORT: Run = (5, 43008, &[(BOUND, 0), (PORT, 0)]);
+
+#[test]
+fn a_port_is_told_turns_and_translations(rt: HostRuntime) {
+    assert!(rt; grows(rt.alloc(), OF_A_PORT));
 }

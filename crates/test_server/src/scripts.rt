@@ -1,7 +1,8 @@
 //! Steps whose growths are refused, each with its reply.
 
 use crate::steps::{
-    AGAIN, BARRED, FIRST, IN_USE, NARROW, NO_FRAME, NO_SPAN, NOT_HELD, SECOND, Step, UNKNOWN, WIDE,
+    AGAIN, ATTACHED, BARRED, FIRST, IN_USE, NARROW, NO_FRAME, NO_SPAN, NOT_HELD, SECOND, Step,
+    UNKNOWN, WIDE,
 };
 use iofd_words::{AccessKind, DeviceNo, Fault, FaultReason, FrameNo, Iova, ObjId, Reply, SourceId};
 
@@ -163,4 +164,39 @@ pub(crate) const NOTICED: Script = &[
     (Step::Notices(2), Reply::Done),
     (Step::Unmap(0x1000), Reply::Bytes(0x1000)),
     (Step::AccessRead(2, 0x1ffe), NOT_HELD),
+];
+
+/// What a device's port asks, for which no memory is needed. Each attachment, detachment and flush is a turn, a refused
+/// one too; the page that was unmapped is translated no more, and read at its frame until the flush.
+pub(crate) const PORT: Script = &[
+    (Step::Turns(NARROW), Reply::Bytes(0)),
+    (Step::Walk(0x1ffe), Reply::Done),
+    (Step::Attach(NARROW, 1), Reply::Id(ObjId(3))),
+    (Step::Turns(NARROW), Reply::Bytes(1)),
+    (Step::Attach(NARROW, 1), ATTACHED),
+    (Step::Turns(NARROW), Reply::Bytes(2)),
+    (Step::Flush(NARROW), Reply::Done),
+    (Step::Turns(NARROW), Reply::Bytes(3)),
+    (Step::Turns(WIDE), Reply::Bytes(0)),
+    (Step::Turns(DeviceNo(3)), UNKNOWN),
+    (Step::Walk(0x1ffe), Reply::Frame(FrameNo(0))),
+    (Step::Walk(0x2000), Reply::Done),
+    (Step::UserWrite, Reply::Done),
+    (Step::KeptRead(0x1ffe, 0), Reply::Done),
+    (Step::KeptRead(0x1ffe, 1), BARRED),
+    (Step::Unmap(0x1000), AGAIN),
+    (Step::Walk(0x1ffe), Reply::Done),
+    (Step::KeptRead(0x1ffe, 0), Reply::Done),
+    (Step::Flush(NARROW), Reply::Done),
+    (Step::KeptRead(0x1ffe, 0), BARRED),
+    (Step::Detach(NARROW), Reply::Done),
+    (Step::Turns(NARROW), Reply::Bytes(5)),
+];
+
+/// A page that is mapped, and the device.
+pub(crate) const BOUND: Script = &[
+    (Step::Alloc(FIRST), Reply::Id(ObjId(1))),
+    (Step::Page(0x10000), Reply::Frame(FrameNo(0))),
+    (Step::Map(0x1000), Reply::Iova(Iova(0x1000))),
+    (Step::Bind(NARROW), Reply::Id(ObjId(2))),
 ];

@@ -3,8 +3,8 @@
 use iofd_words::{
     AccessKind, Act, Answer, Burst, CallError, Cause, Config, CopyRequest, DeviceConfig, DeviceNo,
     Errno, Event, FileNo, FrameNo, HwptRequest, Iova, IovaRange, MapFlags, MapRequest, ObjId,
-    PassNo, PinRequest, Query, RangeList, Refusal, Reply, SourceId, Span, SpanList, UnmapRequest,
-    UserNo, Width,
+    PassNo, PinRequest, Query, RangeList, Refusal, Reply, Rights, SourceId, Span, SpanList,
+    UnmapRequest, UserNo, Width,
 };
 use iommufd_core::Core;
 use std::alloc::{Allocator, Global};
@@ -88,6 +88,13 @@ pub(crate) enum Step {
     AccessRead(u32, u64),
     /// The question for its notices, answered by the last address of the only one, or by Done where there is none.
     Notices(u32),
+    /// The question for the device's turns, answered by their number.
+    Turns(DeviceNo),
+    /// The question what the narrow device's page at this address is translated to, answered by its frame where it may
+    /// be read and written, or by Done where there is none.
+    Walk(u64),
+    /// The narrow device reads the two bytes that are written, at this address and at this frame, which it kept: Done.
+    KeptRead(u64, u32),
 }
 
 fn map(iova: u64) -> MapRequest {
@@ -156,7 +163,7 @@ fn allowed<A: Allocator + Copy>(alloc: A) -> Option<Event<A>> {
     Some(Event::AllowIovas(FIRST, ObjId(1), ranges))
 }
 
-/// The event of a step, its list in memory of this allocator; None of the last five steps, and where there is no
+/// The event of a step, its list in memory of this allocator; None of the last eight steps, and where there is no
 /// memory.
 pub(crate) fn event<A: Allocator + Copy>(alloc: A, step: Step) -> Option<Event<A>> {
     let bytes = bytes()?;
@@ -186,11 +193,18 @@ pub(crate) fn event<A: Allocator + Copy>(alloc: A, step: Step) -> Option<Event<A
         | Step::Ranges
         | Step::AttachedTo(_)
         | Step::AccessRead(..)
-        | Step::Notices(_) => return None,
+        | Step::Notices(_)
+        | Step::Turns(_)
+        | Step::Walk(_)
+        | Step::KeptRead(..) => return None,
     })
 }
 
 pub(crate) const UNKNOWN: Reply = Reply::Refused(Refusal { cause: Cause::Id });
+
+pub(crate) const ATTACHED: Reply = Reply::Refused(Refusal {
+    cause: Cause::Bound,
+});
 
 pub(crate) const IN_USE: Reply = Reply::Refused(Refusal {
     cause: Cause::InUse,
@@ -214,13 +228,13 @@ pub(crate) const BARRED: Reply = Reply::Refused(Refusal {
     cause: Cause::Number,
 });
 
-/// What a read of the narrow device asks.
-pub(crate) fn read(iova: u64, len: u8) -> Query {
-    Query::DeviceRead {
+/// What a read of the narrow device is answered.
+pub(crate) fn read<A: Allocator>(core: &Core<A>, iova: u64, len: u8) -> Answer {
+    core.look(&Query::DeviceRead {
         device: NARROW,
         iova: Iova(iova),
         len,
-    }
+    })
 }
 
 /// What an event is answered; None where it wants for memory.
@@ -246,7 +260,7 @@ fn written<A: Allocator + Copy>(core: &mut Core<A>, frame: FrameNo) -> Option<Re
         via: Some(frame),
     };
     match core.apply(PassNo(0), &act) {
-        Ok(stamp) if core.look(&read(0x5000, len)) == Answer::Read(bytes) => Some(stamp.reply),
+        Ok(stamp) if read(core, 0x5000, len) == Answer::Read(bytes) => Some(stamp.reply),
         Ok(_) => Some(BARRED),
         Err(_) => None,
     }
@@ -303,7 +317,47 @@ fn last_of(spans: &[Span]) -> Reply {
     }
 }
 
-/// What one of the last five steps is answered; None where it wants for memory.
+/// How many turns the device has had.
+fn turns_of<A: Allocator>(core: &Core<A>, device: DeviceNo) -> Reply {
+    match core.look(&Query::Turns(device)) {
+        Answer::Count(count) => Reply::Bytes(count),
+        Answer::Refused(refusal) => Reply::Refused(refusal),
+        _ => BARRED,
+    }
+}
+
+/// What the narrow device's page is translated to.
+fn translated<A: Allocator>(core: &Core<A>, iova: u64) -> Reply {
+    let query = Query::WalkFor {
+        device: NARROW,
+        iova: Iova(iova),
+    };
+    match core.look(&query) {
+        Answer::Walk(Some(to)) if to.rights == Rights(3) => Reply::Frame(to.frame),
+        Answer::Walk(None) => Reply::Done,
+        _ => BARRED,
+    }
+}
+
+/// Whether the narrow device reads the bytes that are written at this frame, where it may.
+fn kept<A: Allocator>(core: &Core<A>, iova: u64, frame: FrameNo) -> Reply {
+    let iova = Iova(iova);
+    if !core.may_pass(NARROW, iova, 2, AccessKind::Read, frame) {
+        return BARRED;
+    }
+    let query = Query::CachedRead {
+        device: NARROW,
+        iova,
+        len: 2,
+        frame,
+    };
+    match core.look(&query) {
+        Answer::Read(read) if bytes() == Some(read) => Reply::Done,
+        _ => NOT_HELD,
+    }
+}
+
+/// What one of the last eight steps is answered; None where it wants for memory.
 fn questioned<A: Allocator + Copy>(core: &mut Core<A>, step: Step) -> Option<Reply> {
     match step {
         Step::Cached(frame) => written(core, FrameNo(frame)),
@@ -311,6 +365,9 @@ fn questioned<A: Allocator + Copy>(core: &mut Core<A>, step: Step) -> Option<Rep
         Step::AttachedTo(device) => Some(page_table_of(core, device)),
         Step::AccessRead(access, iova) => Some(accessed(core, access, iova)),
         Step::Notices(access) => noticed(core, access),
+        Step::Turns(device) => Some(turns_of(core, device)),
+        Step::Walk(iova) => Some(translated(core, iova)),
+        Step::KeptRead(iova, frame) => Some(kept(core, iova, FrameNo(frame))),
         _ => None,
     }
 }

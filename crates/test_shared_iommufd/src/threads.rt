@@ -2,7 +2,7 @@
 
 ghost use Rattle.std.specs.Prelude.{◌≡◌, false};
 ghost use Rattle.lane_lock.specs.Passes.{OwnsAll};
-ghost use Rattle.shared_iommufd.specs.OfPort.{event_of_port};
+ghost use Rattle.guarded_core.specs.OfPort.{event_of_port};
 ghost use Rattle.shared_iommufd.specs.Servers.{IsPassOf};
 
 use crate::opened::server;

@@ -1,7 +1,7 @@
 //! One step of a script, carried out by a server's calls.
 
 ghost use Rattle.std.specs.Prelude.{◌≡◌, false, IfSome};
-ghost use Rattle.shared_iommufd.specs.OfPort.{event_of_port, query_of_port};
+ghost use Rattle.guarded_core.specs.OfPort.{event_of_port, query_of_port};
 ghost use Rattle.shared_iommufd.specs.Servers.{IsPassOf};
 
 use crate::answers::{tells_answer, tells_ioctl, tells_notices, tells_reply};

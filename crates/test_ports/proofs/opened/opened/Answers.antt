@@ -1,4 +1,4 @@
 use Rattle.test_ports.proofs.opened.opened.Goals as goal
 
-pub only_pass-requires : goal.only_pass-requires
-only_pass-requires c = λ i p at. (c.in-Ok.ensures.passes.each i p at).owned
+pub last_pass-requires : goal.last_pass-requires
+last_pass-requires c = λ i p at. (c.in-Ok.ensures.passes.each i p at).owned

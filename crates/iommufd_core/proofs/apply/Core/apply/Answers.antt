@@ -2,6 +2,7 @@ use Rattle.std.proofs.Common.{◌≡◌, length, inl, inr, refl, ◌∙◌, ap, 
 use Rattle.iofd_words.specs.Run.{world_of}
 use Rattle.iommufd_core.proofs.Applied.{may_use, unchanged_config, unchanged_kept, applied_chosen, applied_config}
 use Rattle.iommufd_core.proofs.Applied.{applied_frames, applied_kept}
+use Rattle.iommufd_core.proofs.Counted.{room_for_one}
 use Rattle.iommufd_core.proofs.Histories.{tidy_run}
 use Rattle.iommufd_core.proofs.Roomless.{no_room, of_success}
 use Rattle.server_state.specs.Choice.{MayUse}
@@ -19,7 +20,7 @@ invariant_of-self-in_default-answer g c =
     let stays =
     subst (λ n. TidyShowsSame n c.self.inside.state c.answer.new.state) at c.in_default-answer.ensures.err in
     rw c.reserve.ensures.items (unchanged_kept c.self.inside.state c.answer.new.state
-    c.self.inside.records.items c.self.invariant stays)
+    c.self.inside.turns.items c.self.inside.records.items c.self.invariant stays)
 
 pub returns-in_default-answer-clause-run : goal.returns-in_default-answer-clause-run
 returns-in_default-answer-clause-run g c = (invariant_of-self-in_default-answer g c).run
@@ -30,7 +31,8 @@ returns-in_default-answer-clause-unchanged g c =
     let stays =
     subst (λ n. TidyShowsSame n c.self.inside.state c.answer.new.state) at c.in_default-answer.ensures.err in
     let config =
-    unchanged_config c.self.inside.state c.answer.new.state c.self.inside.records.items c.self.invariant stays in
+    unchanged_config c.self.inside.state c.answer.new.state c.self.inside.turns.items c.self.inside.records.items
+    c.self.invariant stays in
     rw (config, c.reserve.ensures.items) (ap (λ (s : Server _). s.history) c.self.view_is)
 
 pub invariant_of-self-2 : goal.invariant_of-self-2
@@ -47,8 +49,8 @@ invariant_of-self-2 g c =
     let may : MayUse (world_of old.config records) act.event act.via =
     may_use (record { settings = old.config; records = records }) act.event act.via
     (rw (← c.self.view_is) at c.requires) in
-    let kept = applied_kept old new records c.self.invariant c.args.pass act.event act.via c.in-Ok-answer.reply
-    taken given may answered in
+    let kept = applied_kept old new c.self.inside.turns.items records c.self.invariant c.args.pass act.event act.via
+    c.in-Ok-answer.reply taken given may answered c.count.new.counts.items c.count.ensures in
     rw (c.push_reserved.ensures.items, c.reserve.ensures.items, c.in-Ok.ensures.ok, c.new.ensures, c.new-2.ensures) kept
 
 pub returns-clause-record : goal.returns-clause-record
@@ -65,8 +67,8 @@ returns-clause-record g c =
     let may : MayUse (world_of old.config records) act.event act.via =
     may_use (record { settings = old.config; records = records }) act.event act.via
     (rw (← c.self.view_is) at c.requires) in
-    let config = applied_config old new records c.self.invariant c.args.pass act.event act.via c.in-Ok-answer.reply
-    taken given may answered in
+    let config = applied_config old new c.self.inside.turns.items records c.self.invariant c.args.pass act.event act.via
+    c.in-Ok-answer.reply taken given may answered in
     let is : HasOneMore c.args.pass act.event c.in-Ok-answer.reply (record { settings = old.config; records = records })
     (record { settings = new.config; records = c.push_reserved.new.self.items }) = record {
       made = recorded c.args.pass act.event c.in-Ok-answer.reply taken given;
@@ -81,8 +83,8 @@ returns-clause-record g c =
       pass = refl;
       event = refl;
       reply = refl;
-      frames = applied_frames old new records c.self.invariant c.args.pass act.event act.via c.in-Ok-answer.reply
-          taken given may answered;
+      frames = applied_frames old new c.self.inside.turns.items records c.self.invariant c.args.pass act.event act.via
+          c.in-Ok-answer.reply taken given may answered;
     } in
     rw (← c.self.view_is) is
 
@@ -102,8 +104,8 @@ returns-clause-chosen g c =
     let may : MayUse (world_of old.config records) act.event act.via =
     may_use (record { settings = old.config; records = records }) act.event act.via
     (rw (← c.self.view_is) at c.requires) in
-    rw (← c.self.view_is) (applied_chosen old c.answer.new.state records c.self.invariant c.args.pass act.event act.via
-    c.in-Ok-answer.reply taken given may answered)
+    rw (← c.self.view_is) (applied_chosen old c.answer.new.state c.self.inside.turns.items records c.self.invariant c.args.pass
+    act.event act.via c.in-Ok-answer.reply taken given may answered)
 
 pub returns-in_default-answer-clause-memory : goal.returns-in_default-answer-clause-memory
 returns-in_default-answer-clause-memory g c =
@@ -170,6 +172,12 @@ pub returns-in_default-clause-unchanged : goal.returns-in_default-clause-unchang
 returns-in_default-clause-unchanged g c = rw c.reserve.ensures.items (ap (λ (s : Server _). s.history) c.self.view_is)
 
 -- ---- where there is
+
+pub count-requires : goal.count-requires
+count-requires g c =
+    let records = c.self.inside.records in
+    room_for_one c.self.inside.turns.items c.self.inside.state.config records.items c.self.invariant.turns
+    (omega (arith, records.ok.0, records.ok.1, records.small))
 
 pub push_reserved-requires : goal.push_reserved-requires
 push_reserved-requires g c =

@@ -1,7 +1,7 @@
 use Rattle.std.proofs.Common.{◌≡◌, ◌+◌, ◌<◌, ◌≤◌, ◌^◌, None, length}
 use Rattle.lane_lock.specs.Outcomes.{OnlySees}
 use Rattle.lane_lock.specs.Passes.{view_of}
-use Rattle.shared_iommufd.specs.Ports.{IsPortOf, SamePort}
+use Rattle.shared_iommufd.specs.Ports.{IsPortOf, SamePort, most_of, standing_of}
 use Rattle.shared_iommufd.specs.PortReads.{HasRead}
 use Rattle.shared_iommufd.specs.Servers.{settings_of}
 use Rattle.shared_iommufd.proofs.port.Port.read.Given as goal
@@ -16,7 +16,7 @@ invariant-loop g l = record {
   last : l.self.last ≡ None;
   within : l.done ≤ length l.buffer;
   fits : l.iova.0 + l.done < 2 ^ 64;
-  read : HasRead (settings_of l.server) l.initial.self.device l.iova.0 l.initial.buffer l.initial.self.pass l.done
-      l.self.pass l.buffer;
-  idle : length l.buffer ≡ 0 → l.self.pass ≡ l.initial.self.pass;
+  read : HasRead (settings_of l.server) l.initial.self.device (most_of l.initial.self) l.iova.0 l.initial.buffer
+      (standing_of l.initial.self) l.done (standing_of l.self) l.buffer;
+  idle : length l.buffer ≡ 0 → standing_of l.self ≡ standing_of l.initial.self;
 }

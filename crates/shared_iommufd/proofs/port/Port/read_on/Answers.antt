@@ -2,6 +2,7 @@ use Rattle.std.proofs.Common.{◌≡◌, ◌+◌, ◌-◌, length, arith, rules,
 use borrow.Rule.Slice.PartMut.{put_mid}
 use Rattle.lane_lock.specs.Passes.{view_of}
 use Rattle.lane_lock.proofs.Retries.{sees_then}
+use Rattle.shared_iommufd.specs.Ports.{most_of, standing_of}
 use Rattle.shared_iommufd.specs.Servers.{settings_of}
 use Rattle.shared_iommufd.proofs.PortReads.{all_read, one_read, read_stops}
 use Rattle.shared_iommufd.proofs.SamePorts.{port_then}
@@ -13,9 +14,10 @@ returns-in-Err-clause-reads g c = λ old first has.
     let loop = c.loop-done in
     let len = c.piece_len-len.result in
     let e = c.in-Err.ensures in
-    read_stops (settings_of a.server.now) a.self.now.device a.iova.0 old first loop.self.device loop.done len
-    (loop.done + len - loop.done) loop.self.pass c.read_piece.new.self.pass loop.buffer c.read_piece.new.piece
-    c.in-Err.cause loop.invariant.same.device (loop.invariant.read old first has) c.loop-done-test.true e.kept
+    read_stops (settings_of a.server.now) a.self.now.device (most_of a.self.now) a.iova.0 old first
+    (loop.self.device, most_of loop.self) loop.done len
+    (loop.done + len - loop.done) (standing_of loop.self) (standing_of c.read_piece.new.self) loop.buffer c.read_piece.new.piece
+    c.in-Err.cause (λ i. (loop.invariant.same.device i, loop.invariant.same.most i)) (loop.invariant.read old first has) c.loop-done-test.true e.kept
     c.piece_len-len.ensures.value (omega arith) e.same_port.pass e.denied
 
 pub returns-in-Err-clause-idle : goal.returns-in-Err-clause-idle
@@ -44,8 +46,10 @@ loop-done-preserved g c =
       within = omega (arith, long, left, before);
       fits = omega (arith, low, most);
       read = λ old first has.
-          one_read (settings_of a.server.now) a.self.now.device a.iova.0 old first loop.self.device loop.done len part
-          loop.self.pass c.read_piece.new.self.pass loop.buffer c.read_piece.new.piece inv.same.device
+          one_read (settings_of a.server.now) a.self.now.device (most_of a.self.now) a.iova.0 old first
+          (loop.self.device, most_of loop.self) loop.done len part (standing_of loop.self)
+          (standing_of c.read_piece.new.self) loop.buffer c.read_piece.new.piece
+          (λ i. (inv.same.device i, inv.same.most i))
           (inv.read old first has) (search rules) c.piece_len-len.ensures.value (omega arith) e.same_port.pass e.read;
       idle = λ all. absurd (omega (arith, all, long, inv.from, before));
     }
@@ -54,5 +58,6 @@ pub returns-clause-reads : goal.returns-clause-reads
 returns-clause-reads g c = λ old first has.
     let a = c.args in
     let loop = c.loop-done in
-    all_read (settings_of a.server.now) a.self.now.device a.iova.0 old first loop.done loop.self.pass loop.buffer
+    all_read (settings_of a.server.now) a.self.now.device (most_of a.self.now) a.iova.0 old first loop.done (standing_of loop.self)
+    loop.buffer
     (loop.invariant.read old first has) c.loop-done-test.false

@@ -1,5 +1,6 @@
 use Rattle.std.proofs.Common.{◌+◌, ◌-◌, arith}
 use Rattle.lane_lock.specs.Passes.{lanes_of}
+use Rattle.shared_iommufd.specs.Ports.{most_of, standing_of}
 use Rattle.shared_iommufd.specs.Servers.{settings_of}
 use Rattle.shared_iommufd.proofs.PortWrites.{all_written, one_written, write_stops}
 use Rattle.shared_iommufd.proofs.SamePorts.{port_then}
@@ -11,9 +12,11 @@ returns-in-Err-clause-writes g c = λ first has.
     let loop = c.loop-done in
     let len = c.piece_len-len.result in
     let e = c.in-Err.ensures in
-    write_stops (settings_of a.server.now) a.self.now.device a.iova.0 a.bytes.now first (lanes_of a.server.now.lock)
-    loop.self.device loop.done len (loop.done + len - loop.done) loop.self.pass c.write_piece.new.self.pass
-    loop.self.last c.write_piece.new.self.last c.in-Err.cause loop.invariant.same.device
+    write_stops (settings_of a.server.now) a.self.now.device (most_of a.self.now) a.iova.0 a.bytes.now first (lanes_of a.server.now.lock)
+    (loop.self.device, most_of loop.self) loop.done len (loop.done + len - loop.done) (standing_of loop.self)
+    (standing_of c.write_piece.new.self)
+    loop.self.last c.write_piece.new.self.last c.in-Err.cause
+    (λ i. (loop.invariant.same.device i, loop.invariant.same.most i))
     (loop.invariant.written first has) c.loop-done-test.true c.piece_len-len.ensures.value (omega arith)
     e.same_port.pass e.denied
 
@@ -38,9 +41,10 @@ loop-done-preserved g c =
       within = omega (arith, left, before);
       fits = omega (arith, low, most);
       written = λ first has.
-          one_written (settings_of a.server.now) a.self.now.device a.iova.0 a.bytes.now first loop.self.device loop.done
-          len (loop.done + len - loop.done) loop.self.pass c.write_piece.new.self.pass loop.self.last
-          c.write_piece.new.self.last e.written.0 inv.same.device (inv.written first has)
+          one_written (settings_of a.server.now) a.self.now.device (most_of a.self.now) a.iova.0 a.bytes.now first
+          (loop.self.device, most_of loop.self) loop.done len (loop.done + len - loop.done) (standing_of loop.self)
+          (standing_of c.write_piece.new.self) loop.self.last
+          c.write_piece.new.self.last e.written.0 (λ i. (inv.same.device i, inv.same.most i)) (inv.written first has)
           c.piece_len-len.ensures.value (omega arith) e.same_port.pass e.written.1;
       idle = λ all. absurd (omega (arith, all, inv.from, before));
     }
@@ -49,5 +53,5 @@ pub returns-clause-writes : goal.returns-clause-writes
 returns-clause-writes g c = λ first has.
     let a = c.args in
     let loop = c.loop-done in
-    all_written (settings_of a.server.now) a.self.now.device a.iova.0 a.bytes.now first loop.done loop.self.pass
+    all_written (settings_of a.server.now) a.self.now.device (most_of a.self.now) a.iova.0 a.bytes.now first loop.done (standing_of loop.self)
     loop.self.last (loop.invariant.written first has) c.loop-done-test.false

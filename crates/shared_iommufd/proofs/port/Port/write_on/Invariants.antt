@@ -1,5 +1,5 @@
 use Rattle.std.proofs.Common.{◌≡◌, ◌+◌, ◌-◌, ◌<◌, ◌≤◌, ◌^◌, length}
-use Rattle.shared_iommufd.specs.Ports.{IsPortOf, SamePort}
+use Rattle.shared_iommufd.specs.Ports.{IsPortOf, SamePort, most_of, standing_of}
 use Rattle.shared_iommufd.specs.Servers.{settings_of}
 use Rattle.shared_iommufd.proofs.PortWrites.{HasGoneOn}
 use Rattle.shared_iommufd.proofs.port.Port.write_on.Given as goal
@@ -11,9 +11,9 @@ invariant-loop-done g l = record {
   from : l.initial.done ≤ l.done;
   within : l.done ≤ length l.bytes;
   fits : l.iova.0 + l.done < 2 ^ 64;
-  written : HasGoneOn (settings_of l.server) l.initial.self.device l.iova.0 l.bytes l.initial.done l.initial.self.pass
-      l.initial.self.last l.done l.self.pass l.self.last;
-  idle : l.initial.done ≡ length l.bytes → l.self.pass ≡ l.initial.self.pass;
+  written : HasGoneOn (settings_of l.server) l.initial.self.device (most_of l.initial.self) l.iova.0 l.bytes
+      l.initial.done (standing_of l.initial.self) l.initial.self.last l.done (standing_of l.self) l.self.last;
+  idle : l.initial.done ≡ length l.bytes → standing_of l.self ≡ standing_of l.initial.self;
 }
 
 abbrev pub decreases-loop-done : goal.decreases-loop-done

@@ -2,7 +2,7 @@ use Rattle.std.proofs.Common.{subst}
 use Rattle.std.specs.Arc.{arc_value}
 use Rattle.iofd_words.specs.Run.{IsRun}
 use Rattle.lane_lock.specs.Ending.{GivesAllBack}
-use Rattle.shared_iommufd.specs.declared.kept_core.KeptCore.{KeptCore}
+use Rattle.guarded_core.specs.declared.kept_core.KeptCore.{KeptCore}
 use Rattle.shared_iommufd.proofs.Ended.{ends}
 use Rattle.shared_iommufd.proofs.server.Server.close.Goals as goal
 

@@ -2,7 +2,7 @@ use Rattle.std.proofs.Common.{refl, rules}
 use Rattle.iofd_words.specs.Look.{answers_to}
 use Rattle.iofd_words.specs.Run.{IsRun}
 use Rattle.server_state.specs.Choice.{IsLooked}
-use Rattle.shared_iommufd.specs.Opening.{opened_with}
+use Rattle.guarded_core.specs.Opening.{opened_with}
 use Rattle.shared_iommufd.specs.Servers.{settings_of}
 use Rattle.shared_iommufd.proofs.Shown.{answered}
 use Rattle.shared_iommufd.proofs.server.Server.look.Goals as goal

@@ -1,5 +1,5 @@
 use Rattle.std.proofs.Common.{refl}
-use Rattle.shared_iommufd.specs.Opening.{opened_with}
+use Rattle.guarded_core.specs.Opening.{opened_with}
 use Rattle.shared_iommufd.specs.Servers.{settings_of}
 use Rattle.shared_iommufd.proofs.Shown.{makes}
 use Rattle.shared_iommufd.proofs.server.Server.make.Goals as goal

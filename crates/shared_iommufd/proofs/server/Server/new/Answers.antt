@@ -1,17 +1,19 @@
-use Rattle.std.proofs.Common.{◌≡◌, ◌≤◌, ◌∙◌, ap, length, refl, sym, subst, inl, inr, rules}
+use Rattle.std.proofs.Common.{ℕ, ◌+◌, Some, slice_get, ◌≡◌, ◌≤◌, ◌∙◌, ap, length, refl, sym, subst, inl, inr, rules}
+use Rattle.std.specs.NonZero.{non_zero_usize_get}
 use Rattle.iofd_words.specs.Settings.{Settings}
 use Rattle.lane_lock.specs.Passes.{AllNew}
-use Rattle.shared_iommufd.specs.Opening.{opened_with}
+use Rattle.guarded_core.specs.Opening.{opened_with}
+use Rattle.shared_iommufd.specs.declared.port_key.PortKey.{PortKey}
 use Rattle.shared_iommufd.proofs.Bounds.{lanes_fit, passes_fit}
-use Rattle.shared_iommufd.proofs.Entered.{opened_so}
+use Rattle.guarded_core.proofs.Entered.{opened_so}
 use Rattle.shared_iommufd.proofs.Keys.{all_keys}
 use Rattle.shared_iommufd.proofs.server.Server.new.Goals as goal
 
-pub new-requires-2-clause-lanes : goal.new-requires-2-clause-lanes
-new-requires-2-clause-lanes g c = lanes_fit c.args.lanes c.args.cache (sym c.first_outside.ensures ∙ c.in_default.is)
+pub new-requires-3-clause-lanes : goal.new-requires-3-clause-lanes
+new-requires-3-clause-lanes g c = lanes_fit c.args.lanes c.args.cache (sym c.first_outside.ensures ∙ c.in_default.is)
 
-pub new-requires-2-clause-passes : goal.new-requires-2-clause-passes
-new-requires-2-clause-passes g c = subst (λ n. (1 ≤ n) × (n ≤ 1024)) (sym c.passes-passes.ensures)
+pub new-requires-3-clause-passes : goal.new-requires-3-clause-passes
+new-requires-3-clause-passes g c = subst (λ n. (1 ≤ n) × (n ≤ 1024)) (sym c.passes-passes.ensures)
     (passes_fit c.args.config.now c.pool-pool.ensures.within)
 
 pub invariant_of-result-clause-fresh : goal.invariant_of-result-clause-fresh
@@ -48,10 +50,15 @@ returns-in-Ok-new-2-clause-passes g c = subst (λ n. AllNew c.in-Ok-new-2.lock n
 pub returns-in-Ok-new-2-clause-keys : goal.returns-in-Ok-new-2-clause-keys
 returns-in-Ok-new-2-clause-keys g c =
     let count : length c.in-Ok.keys.items ≡ length c.args.config.now.devices = search rules in
-    all_keys _ c.args.config.now c.in-Ok.keys.items
+    let most : non_zero_usize_get c.in-Some-new.most ≡ c.args.cache = c.in-Some-new.ensures ∙ c.from.ensures in
+    all_keys _ c.args.config.now c.args.cache c.in-Ok.keys.items
     (opened_so (opened_with c.in-Ok-new-2.lock) c.in-Ok-new.core.history c.args.config.now
     c.in-Ok-new-2.ensures.opening c.in-Ok-new.ensures).0
-    count c.in-Ok.ensures.each
+    count (subst (λ (n : ℕ). (i : ℕ) (key : PortKey _) → slice_get c.in-Ok.keys.items i ≡ Some key
+    → (key.device.0 ≡ i + 1) × (key.cache.pages.cap ≡ n)) most c.in-Ok.ensures.each)
 
-pub returns-in_default-new-clause-refused : goal.returns-in_default-new-clause-refused
-returns-in_default-new-clause-refused g c = inr (sym c.first_outside.ensures ∙ c.in_default.is, refl)
+pub returns-in_default-new-2-clause-refused : goal.returns-in_default-new-2-clause-refused
+returns-in_default-new-2-clause-refused g c = inr (sym c.first_outside.ensures ∙ c.in_default.is, refl)
+
+pub returns-in-Err-clause-refused : goal.returns-in-Err-clause-refused
+returns-in-Err-clause-refused g c = inr (sym c.first_outside.ensures ∙ c.in_default.is, refl)

@@ -1,7 +1,8 @@
 use Rattle.std.proofs.Common.{refl}
-use Rattle.shared_iommufd.specs.Opening.{opened_with}
+use Rattle.guarded_core.specs.Opening.{opened_with}
 use Rattle.shared_iommufd.specs.Servers.{settings_of}
-use Rattle.shared_iommufd.proofs.Shown.{if_ok, makes, same_pass, sees_same}
+use Rattle.guarded_core.proofs.Guards.{if_ok}
+use Rattle.shared_iommufd.proofs.Shown.{makes, same_pass, sees_same}
 use Rattle.shared_iommufd.proofs.server.Server.try_make.Goals as goal
 
 pub returns-clause-made : goal.returns-clause-made

@@ -1,8 +1,8 @@
 use Rattle.std.proofs.Common.{refl, rules, Ok, Err, subst}
 use Rattle.iofd_words.specs.Run.{IsRun}
-use Rattle.shared_iommufd.specs.Opening.{opened_with}
+use Rattle.guarded_core.specs.Opening.{opened_with}
 use Rattle.shared_iommufd.specs.Servers.{settings_of}
-use Rattle.shared_iommufd.specs.Told.{TellsNotices}
+use Rattle.guarded_core.specs.Told.{TellsNotices}
 use Rattle.shared_iommufd.proofs.Shown.{notified}
 use Rattle.shared_iommufd.proofs.server.Server.try_notices.Goals as goal
 

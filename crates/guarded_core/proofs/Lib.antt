@@ -1,0 +1,6 @@
+pub mod Answered
+pub mod ByFound
+pub mod Entered
+pub mod Guards
+pub mod Kept
+pub mod Unfound

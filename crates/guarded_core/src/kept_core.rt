@@ -1,0 +1,104 @@
+//! A core as the lock keeps it.
+
+ghost use Rattle.std.specs.Prelude.{◌≡◌, false};
+ghost use Rattle.iofd_words.specs.Look.{answers_to};
+ghost use Rattle.iofd_words.specs.Run.{IsRun};
+ghost use Rattle.server_state.specs.Choice.{IsLooked};
+ghost use Rattle.guarded_core.specs.OfPort.{query_of_port};
+ghost use Rattle.guarded_core.specs.Told.{TellsNotices, TellsRanges};
+
+use iofd_words::{
+    Act, Answer, CallError, Config, FileNo, NoMemory, ObjId, PassNo, Query, Record, Span,
+};
+use iommufd_core::{Core, Stamp};
+use iova_ranges::RangeSet;
+use lane_lock::Kept;
+use std::alloc::{Allocator, Global};
+
+/// An entry of a shared server's history: first what it was opened with, then each record. No value of it is made.
+pub enum Entry<A: Allocator = Global> {
+    /// What the server was opened with.
+    Opened(Config<A>),
+    /// A record of the core.
+    Made(Record<A>),
+}
+
+/// A core under a lock.
+#[derive(Drop)]
+pub struct KeptCore<A: Allocator = Global> {
+    pub core: Core<A>,
+}
+
+impl<A: Allocator + Copy> KeptCore<A> {
+    /// The core.
+    pub fn core(&self) -> &Core<A>
+        ensures value { result.now ≡ self.now.core }
+        ensures run { IsRun self.now.core.history.settings self.now.core.history.records }
+    {
+        let _records = self.core.records();
+        &self.core
+    }
+
+    /// What the core answers to the question for notices.
+    pub fn notices(&self, file: FileNo, access: ObjId) -> Result<Vec<Span, A>, CallError>
+        ensures notices { TellsNotices self.now.core.history file access result }
+        ensures run { IsRun self.now.core.history.settings self.now.core.history.records }
+    {
+        self.core().notices(file, access)
+    }
+
+    /// What the core answers to the question for usable ranges.
+    pub fn ranges(&self, file: FileNo, ioas: ObjId) -> Result<RangeSet<A>, CallError>
+        ensures ranges { TellsRanges A self.now.core.history file ioas result }
+        ensures run { IsRun self.now.core.history.settings self.now.core.history.records }
+    {
+        self.core().ranges(file, ioas)
+    }
+
+    /// What the core answers to the question, which isn't one of a port.
+    pub fn look(&self, query: &Query) -> Answer
+        requires { query_of_port query.now ≡ false }
+        ensures answer { IsLooked (answers_to self.now.core.history.settings self.now.core.history.records query.now)
+            result }
+        ensures run { IsRun self.now.core.history.settings self.now.core.history.records }
+    {
+        self.core().look(query)
+    }
+}
+
+impl<A: Allocator + Copy> Kept for KeptCore<A> {
+    type Act = Act<A>;
+
+    type Stamp = Stamp;
+
+    type Record = Entry<A>;
+
+    ghost use Rattle.std.specs.Prelude.{IsTrue};
+    ghost use Rattle.iommufd_core.specs.History.{may_apply};
+    ghost use Rattle.iommufd_core.specs.Server.{MayWant};
+    ghost use Rattle.guarded_core.specs.Entries.{maker_of, told};
+    ghost use Rattle.guarded_core.specs.Applied.{IsApplied};
+
+    ghost history = { λ it. told it.core.history };
+
+    ghost maker = { maker_of };
+
+    ghost AHEAD = { 1 };
+
+    const AHEAD: u64 = 1;
+
+    ghost may = { λ it act. IsTrue (may_apply it.core.history act.event act.via) };
+
+    ghost gives = { λ before pass act stamp after.
+        IsApplied (record { 0 = pass }) act stamp before.core.history after.core.history };
+
+    ghost wants = { λ it act. MayWant it.core act.event };
+
+    fn apply(&mut self, pass: PassNo, act: &Act<A>) -> Result<Stamp, NoMemory> {
+        self.core.apply(pass, act)
+    }
+
+    fn len(&self) -> u64 {
+        self.core.records().len() as u64 + 1
+    }
+}

@@ -1,9 +1,0 @@
-use Rattle.std.proofs.Common.{rules}
-use Rattle.shared_iommufd.proofs.Guards.{committed}
-use Rattle.shared_iommufd.proofs.guarded.try_commit.Goals as goal
-
-pub returns-in-Ok-commit-clause-committed : goal.returns-in-Ok-commit-clause-committed
-returns-in-Ok-commit-clause-committed g c =
-    let write = c.in-Ok.ensures in
-    committed _ _ _ _ _ _ c.requires.owned write.writing write.same_pass write.sees c.in-Ok-commit.ensures.commits _
-    (search rules)

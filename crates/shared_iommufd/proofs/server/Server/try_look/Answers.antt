@@ -1,0 +1,20 @@
+use Rattle.std.proofs.Common.{refl, rules}
+use Rattle.iofd_words.specs.Look.{answers_to}
+use Rattle.iofd_words.specs.Run.{IsRun}
+use Rattle.server_state.specs.Choice.{IsLooked}
+use Rattle.guarded_core.specs.Opening.{opened_with}
+use Rattle.shared_iommufd.specs.Servers.{settings_of}
+use Rattle.guarded_core.proofs.Guards.{if_ok}
+use Rattle.shared_iommufd.proofs.Shown.{answered}
+use Rattle.shared_iommufd.proofs.server.Server.try_look.Goals as goal
+
+pub returns-clause-answer : goal.returns-clause-answer
+returns-clause-answer g c =
+    let server = c.args.self.now in
+    if_ok c.try_show.result _ _ c.try_show.ensures.shown (λ answer s.
+    let h = s.0.core.history in
+    let k = s.1 in
+    let run : IsRun h.settings h.records = search rules in
+    let looked : IsLooked (answers_to h.settings h.records c.args.query.now) answer = search rules in
+    answered (settings_of server) (opened_with server.lock) h c.try_show.new.pass c.args.query.now answer refl
+    server.fresh k.opened run k.seen k.legal looked)
