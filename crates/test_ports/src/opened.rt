@@ -43,7 +43,7 @@ fn config(alloc: Global, passes: u16) -> Option<Config> {
 
 // The key of the first device.
 fn first_key(server: &Server, keys: &mut Vec<PortKey>) -> Option<PortKey>
-    requires { AllKeys server.now keys.old.items }
+    requires { AllKeys server.now 1 keys.old.items }
     ensures { IfSome result (IsKeyOf server.now) }
 {
     let _ = server;
