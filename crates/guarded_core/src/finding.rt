@@ -17,6 +17,15 @@ use iofd_words::{
 use port_cache::{Found, PortCache, with_right};
 use std::alloc::Allocator;
 
+/// A device's read of so many bytes, by what its port keeps.
+#[derive(Clone, Copy)]
+pub struct PortRead<'a, A: Allocator + Copy> {
+    pub cache: &'a PortCache<A>,
+    pub device: DeviceNo,
+    pub iova: Iova,
+    pub len: u8,
+}
+
 // The frame of a translation.
 fn frame_of(translation: Option<Translation>) -> Option<FrameNo>
     ensures { result ≡ frame_found translation }
@@ -73,19 +82,19 @@ impl<A: Allocator + Copy> KeptCore<A> {
     }
 
     /// What the device reads, and what it found.
-    pub fn read(
-        &self,
-        cache: &PortCache<A>,
-        device: DeviceNo,
-        iova: Iova,
-        len: u8,
-    ) -> (Found, Answer)
-        requires known { is_device self.now.core.history.settings device ≡ true }
-        requires serves { Serves self.now.core.history device cache.now.turns cache.now.pages.entries }
-        requires inside { crosses iova.0 len ≡ false }
-        ensures { ReadUnder self.now.core.history device cache.now.turns cache.now.pages.entries iova len result.0
-            result.1 }
+    pub fn read(&self, read: PortRead<'_, A>) -> (Found, Answer)
+        requires known { is_device self.now.core.history.settings read.device ≡ true }
+        requires serves { Serves self.now.core.history read.device read.cache.now.turns read.cache.now.pages.entries }
+        requires inside { crosses read.iova.0 read.len ≡ false }
+        ensures { ReadUnder self.now.core.history read.entry.device read.entry.cache.now.turns
+            read.entry.cache.now.pages.entries read.entry.iova read.entry.len result.0 result.1 }
     {
+        let PortRead {
+            cache,
+            device,
+            iova,
+            len,
+        } = read;
         let core = self.core();
         let found = self.find(cache, device, iova, AccessKind::Read);
         let query = match found.translation {

@@ -1,7 +1,7 @@
 //! What is done under a guard, over any kept value. A guard's own clauses say what becomes of its pass, and are
 //! followed here alone, where the value's type is a parameter.
 
-ghost use Rattle.std.specs.Prelude.{IfErr, IfOk};
+ghost use Rattle.std.specs.Prelude.{◌≡◌, IfErr, IfOk};
 ghost use Rattle.std.specs.Fn.{FnReturnsAt};
 ghost use Rattle.lane_lock.specs.History.{StartsWith};
 ghost use Rattle.lane_lock.specs.Outcomes.{OnlySees, RefusesRead};
@@ -13,64 +13,70 @@ use iofd_words::NoMemory;
 use lane_lock::{CommitError, Kept, LaneLock, NotNow, Pass};
 use std::sync::Wait;
 
-/// What is answered of the value, once the lane of the pass can be had.
-pub fn show<R: Wait, K: Kept, T, F: Fn(&K) -> T>(
+/// What is answered to the question of the value, once the lane of the pass can be had.
+pub fn show<R: Wait, K: Kept, Q, T, F: Fn(&K, Q) -> T>(
     rt: &R,
     lock: &LaneLock<K>,
     pass: &mut Pass<K>,
-    ask: &F,
+    question: Q,
+    ask: F,
 ) -> T
     requires owned { Owns lock.now pass.old }
-    requires callable { F.IsAlwaysCallable ask.now }
+    requires callable { (x : _) → F.pre ask x question }
     ensures same_pass { SamePass pass.old pass.new }
     ensures owned { Owns lock.now pass.new }
     ensures sees { OnlySees (view_of pass.old) (view_of pass.new) }
-    ensures shown { (value : K) × Shown lock.now pass.new value × FnReturnsAt F.Fn ask.now value result }
+    ensures shown { (value : K) × Shown lock.now pass.new value
+        × ((x : _) × (x.now ≡ value) × F.post ask x question result) }
 {
     let guard = lock.read(rt, pass);
-    let answer = ask(guard.get());
+    let answer = ask(guard.get(), question);
     guard.end();
     answer
 }
 
 /// The same without waiting.
-pub fn try_show<K: Kept, T, F: Fn(&K) -> T>(
+pub fn try_show<K: Kept, Q: Copy, T, F: Fn(&K, Q) -> T>(
     lock: &LaneLock<K>,
     pass: &mut Pass<K>,
-    ask: &F,
+    question: Q,
+    ask: F,
 ) -> Result<T, NotNow>
     requires owned { Owns lock.now pass.old }
-    requires callable { F.IsAlwaysCallable ask.now }
+    requires callable { (x : _) → F.pre ask x question }
     ensures same_pass { SamePass pass.old pass.new }
     ensures owned { Owns lock.now pass.new }
     ensures sees { OnlySees (view_of pass.old) (view_of pass.new) }
     ensures shown { IfOk result (λ answer.
-        (value : K) × Shown lock.now pass.new value × FnReturnsAt F.Fn ask.now value answer) }
+        (value : K) × Shown lock.now pass.new value
+        × ((x : _) × (x.now ≡ value) × F.post ask x question answer)) }
     ensures refused { IfErr result (RefusesRead (view_of pass.old) (view_of pass.new) (lane_of pass.old)) }
 {
-    try_show_later(lock, pass, ask)
+    try_show_later(lock, pass, question, ask)
 }
 
 /// The same of a question that may be asked of those values alone whose history begins as the lock's did, and with all
 /// that the pass has seen.
-pub fn try_show_later<K: Kept, T, F: Fn(&K) -> T>(
+pub fn try_show_later<K: Kept, Q: Copy, T, F: Fn(&K, Q) -> T>(
     lock: &LaneLock<K>,
     pass: &mut Pass<K>,
-    ask: &F,
+    question: Q,
+    ask: F,
 ) -> Result<T, NotNow>
     requires owned { Owns lock.now pass.old }
     requires callable { (x : _) → StartsWith (K.history x.now) (opening_of K.history lock.now)
-        → StartsWith (K.history x.now) (view_of pass.old).seen → F.pre ask.now x }
+        → StartsWith (K.history x.now) (view_of pass.old).seen → F.pre ask x question }
     ensures same_pass { SamePass pass.old pass.new }
     ensures owned { Owns lock.now pass.new }
     ensures sees { OnlySees (view_of pass.old) (view_of pass.new) }
     ensures shown { IfOk result (λ answer.
-        (value : K) × Shown lock.now pass.new value × FnReturnsAt F.Fn ask.now value answer) }
+        (value : K) × Shown lock.now pass.new value
+        × ((x : _) × (x.now ≡ value) × F.post ask x question answer)) }
     ensures refused { IfErr result (RefusesRead (view_of pass.old) (view_of pass.new) (lane_of pass.old)) }
 {
     match pass.try_read(lock) {
         Ok(guard) => {
-            let answer = ask(guard.get());
+            let answer = ask(guard.get(), question);
             guard.end();
             Ok(answer)
         }

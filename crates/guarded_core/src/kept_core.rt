@@ -23,6 +23,13 @@ pub enum Entry<A: Allocator = Global> {
     Made(Record<A>),
 }
 
+/// An object of a file, that a question is for.
+#[derive(Clone, Copy)]
+pub struct ObjectOf {
+    pub file: FileNo,
+    pub id: ObjId,
+}
+
 /// A core under a lock.
 #[derive(Drop)]
 pub struct KeptCore<A: Allocator = Global> {
@@ -39,20 +46,20 @@ impl<A: Allocator + Copy> KeptCore<A> {
         &self.core
     }
 
-    /// What the core answers to the question for notices.
-    pub fn notices(&self, file: FileNo, access: ObjId) -> Result<Vec<Span, A>, CallError>
-        ensures notices { TellsNotices self.now.core.history file access result }
+    /// What the core answers to the question for an access object's notices.
+    pub fn notices(&self, access: ObjectOf) -> Result<Vec<Span, A>, CallError>
+        ensures notices { TellsNotices self.now.core.history access.file access.id result }
         ensures run { IsRun self.now.core.history.settings self.now.core.history.records }
     {
-        self.core().notices(file, access)
+        self.core().notices(access.file, access.id)
     }
 
-    /// What the core answers to the question for usable ranges.
-    pub fn ranges(&self, file: FileNo, ioas: ObjId) -> Result<RangeSet<A>, CallError>
-        ensures ranges { TellsRanges A self.now.core.history file ioas result }
+    /// What the core answers to the question for an address space's usable ranges.
+    pub fn ranges(&self, ioas: ObjectOf) -> Result<RangeSet<A>, CallError>
+        ensures ranges { TellsRanges A self.now.core.history ioas.file ioas.id result }
         ensures run { IsRun self.now.core.history.settings self.now.core.history.records }
     {
-        self.core().ranges(file, ioas)
+        self.core().ranges(ioas.file, ioas.id)
     }
 
     /// What the core answers to the question, which isn't one of a port.

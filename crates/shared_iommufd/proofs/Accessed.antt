@@ -1,5 +1,5 @@
 -- What a guard tells of a device's access, said of settings and records; and what the port keeps then.
-use Rattle.std.proofs.Common.{◌≡◌, ℕ, true, Option, Some, None, Contains, IfSome, List, [], ◌∷◌, ◌++◌, length, drop, refl}
+use Rattle.std.proofs.Common.{◌≡◌, ℕ, true, Option, Some, None, Contains, IfSome, List, [], ◌∷◌, ◌++◌, length}
 use Rattle.std.proofs.Common.{append-nil, is_none, sym, ap, subst, ◌∙◌}
 use Rattle.std.specs.List.{list_any}
 use Rattle.iofd_interleavings.proofs.KeepsSound.{no_cause}
@@ -30,7 +30,6 @@ use Rattle.iofd_words.specs.Pages.{page_of}
 use Rattle.iofd_words.specs.Run.{IsRun}
 use Rattle.iofd_words.specs.Settings.{Settings}
 use Rattle.iofd_words.specs.Turns.{turns_of}
-use Rattle.iofd_words.specs.declared.fault.AccessKind.{AccessKind}
 use Rattle.iofd_words.specs.declared.fault.AccessKind.TheVariants.{Read, Write}
 use Rattle.iofd_words.specs.declared.numbers.DeviceNo.{DeviceNo}
 use Rattle.iofd_words.specs.declared.query.Answer.{Answer}
@@ -49,7 +48,7 @@ use Rattle.guarded_core.specs.declared.kept_core.Entry.TheVariants as entry
 use Rattle.guarded_core.proofs.Entered.{same_settings, told_more}
 use Rattle.guarded_core.proofs.Kept.{keeps_found, keeps_later, keeps_serves}
 use Rattle.shared_iommufd.specs.PortReads.{IsReadSo, TellsRead}
-use Rattle.shared_iommufd.specs.PortWrites.{IsWrittenSo, TellsWrite}
+use Rattle.shared_iommufd.specs.PortWrites.{TellsWrite}
 use Rattle.shared_iommufd.specs.Ports.{KeepsSame, Standing}
 use Rattle.shared_iommufd.proofs.DeviceAnswers.{run_before}
 use Rattle.shared_iommufd.proofs.Shown.{has_seen}

@@ -8,7 +8,6 @@ use Rattle.iofd_words.specs.Pages.{offset_of, page_of}
 use Rattle.iofd_words.specs.Run.{IsRun}
 use Rattle.iofd_words.specs.Settings.{Settings}
 use Rattle.iofd_words.specs.declared.event.Act.{Act}
-use Rattle.iofd_words.specs.declared.event.Event.TheVariants as event
 use Rattle.iofd_words.specs.declared.fault.AccessKind.TheVariants.{Write}
 use Rattle.iofd_words.specs.declared.fault.Fault.{Fault}
 use Rattle.iofd_words.specs.declared.numbers.DeviceNo.{DeviceNo}

@@ -1,6 +1,6 @@
 -- What a guard shows, and what a commit makes, said of settings and records.
 use Rattle.std.proofs.Common.{◌≡◌, ℕ, List, [], ◌∷◌, ◌++◌, length, drop, ap, refl, sym, ◌∙◌, subst}
-use Rattle.std.proofs.Common.{append_assoc, append-nil, Result, Ok, Err, IfOk, Vec}
+use Rattle.std.proofs.Common.{append-nil, Result, Ok, Err, Vec}
 use Rattle.std.proofs.lemmas.List.{append_cancel_left}
 use Rattle.iofd_words.specs.Bounds.{Bounds}
 use Rattle.iofd_words.specs.Look.{answers_to}

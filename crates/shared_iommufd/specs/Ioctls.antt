@@ -1,5 +1,5 @@
 -- What a call of ioctl makes and answers.
-use Rattle.std.specs.Prelude.{◌≡◌, ◌⊎◌, ◌<◌, ◌^◌, ℕ, Option, Some, None, List, [], length, Result, Ok, Err, IfOk}
+use Rattle.std.specs.Prelude.{◌≡◌, ◌⊎◌, ℕ, Option, Some, None, List, [], length, Result, Ok, Err}
 use Rattle.iofd_words.specs.Bounds.{Bounds}
 use Rattle.iofd_words.specs.FirstTrue.{first_true}
 use Rattle.iofd_words.specs.Look.{AreUsableRanges, ranges_checks}
@@ -8,10 +8,8 @@ use Rattle.iofd_words.specs.Settings.{Settings}
 use Rattle.iofd_words.specs.View.{view}
 use Rattle.iofd_words.specs.declared.call_error.CallError.{CallError}
 use Rattle.iofd_words.specs.declared.call_error.CallError.TheVariants as error
-use Rattle.iofd_words.specs.declared.event.Act.{Act}
 use Rattle.iofd_words.specs.declared.event.Event.{Event}
 use Rattle.iofd_words.specs.declared.numbers.FileNo.{FileNo}
-use Rattle.iofd_words.specs.declared.numbers.ObjId.{ObjId}
 use Rattle.iofd_words.specs.declared.record.Record.{Record}
 use Rattle.iofd_words.specs.declared.refusal.Cause.{Cause}
 use Rattle.iofd_words.specs.declared.refusal.Errno.{Errno}
@@ -25,7 +23,6 @@ use Rattle.ioctl_codec.specs.declared.command.RangesRequest.{RangesRequest}
 use Rattle.ioctl_codec.specs.declared.events.Asked.{Asked}
 use Rattle.ioctl_codec.specs.declared.events.Asked.TheVariants as asks
 use Rattle.iommufd_core.specs.History.{History, world}
-use Rattle.iommufd_core.specs.Refused.{refused_cause}
 use Rattle.iommufd_core.specs.declared.apply.Stamp.{Stamp}
 use Rattle.iova_ranges.specs.declared.range_set.RangeSet.{RangeSet}
 use Rattle.lane_lock.specs.Outcomes.{OnlySees, RefusesRead}
@@ -34,7 +31,6 @@ use Rattle.lane_lock.specs.declared.table.View.{View}
 use Rattle.guarded_core.specs.Entries.{history_of}
 use Rattle.guarded_core.specs.Guarded.{RefusesCommit}
 use Rattle.shared_iommufd.specs.Made.{Makes}
-use Rattle.guarded_core.specs.Told.{TellsRanges}
 use Rattle.guarded_core.specs.Passes.{CoreGhosts, CorePass}
 use Rattle.shared_iommufd.specs.Seen.{HasSeen}
 use Rattle.guarded_core.specs.declared.try_error.TryError.{TryError}

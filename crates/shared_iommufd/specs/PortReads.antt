@@ -1,23 +1,18 @@
 -- A port's reads.
-use Rattle.std.specs.Prelude.{◌≡◌, ℕ, ◌+◌, ◌-◌, ◌<◌, Option, Some, None, Result, Ok, Err, List, ◌++◌, length, drop}
+use Rattle.std.specs.Prelude.{◌≡◌, ℕ, ◌+◌, ◌-◌, ◌<◌, None, Result, Ok, Err, List, ◌++◌, length, drop}
 use Rattle.std.specs.Prelude.{Contains}
-use Rattle.iofd_words.specs.Frames.{bytes_at}
 use Rattle.iofd_words.specs.Look.{answers_to}
-use Rattle.iofd_words.specs.Pages.{offset_of, page_of}
-use Rattle.iofd_words.specs.Run.{world_of}
+use Rattle.iofd_words.specs.Pages.{page_of}
 use Rattle.iofd_words.specs.Settings.{Settings}
 use Rattle.iofd_words.specs.Turns.{turns_of}
 use Rattle.iofd_words.specs.declared.fault.AccessKind.TheVariants.{Read}
 use Rattle.iofd_words.specs.declared.numbers.DeviceNo.{DeviceNo}
-use Rattle.iofd_words.specs.declared.numbers.Iova.{Iova}
 use Rattle.iofd_words.specs.declared.query.Answer.{Answer}
 use Rattle.iofd_words.specs.declared.query.Answer.TheVariants as answer
 use Rattle.iofd_words.specs.declared.query.Query.TheVariants as query
-use Rattle.iofd_words.specs.declared.query.Translation.{Translation}
 use Rattle.iofd_words.specs.declared.record.Record.{Record}
 use Rattle.lane_lock.specs.Outcomes.{OnlySees, RefusesRead}
 use Rattle.lane_lock.specs.Passes.{SamePass, lane_of, view_of}
-use Rattle.server_state.specs.Choice.{IsLooked}
 use Rattle.port_cache.specs.Cached.{Leaves, compared}
 use Rattle.guarded_core.specs.Caches.{ReadBy, found}
 use Rattle.guarded_core.specs.Passes.{CoreGhosts, CorePass}

@@ -4,12 +4,9 @@ use Rattle.std.specs.Prelude.{IfSome}
 use Rattle.iofd_words.specs.Pages.{page_of}
 use Rattle.iofd_words.specs.Settings.{Settings}
 use Rattle.iofd_words.specs.Turns.{turns_of}
-use Rattle.iofd_words.specs.declared.event.Act.{Act}
-use Rattle.iofd_words.specs.declared.event.Event.TheVariants as event
 use Rattle.iofd_words.specs.declared.fault.AccessKind.TheVariants.{Write}
 use Rattle.iofd_words.specs.declared.numbers.DeviceNo.{DeviceNo}
 use Rattle.iofd_words.specs.declared.numbers.FrameNo.{FrameNo}
-use Rattle.iofd_words.specs.declared.query.Translation.{Translation}
 use Rattle.iofd_words.specs.declared.reply.Reply.{Reply}
 use Rattle.iofd_words.specs.declared.reply.Reply.TheVariants as reply
 use Rattle.iommufd_core.specs.declared.apply.Stamp.{Stamp}

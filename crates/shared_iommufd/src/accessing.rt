@@ -7,7 +7,7 @@ ghost use Rattle.shared_iommufd.specs.PortReads.{TellsRead};
 ghost use Rattle.shared_iommufd.specs.PortWrites.{TellsWrite};
 
 use crate::server::{Pass, Server};
-use guarded_core::{KeptCore, TryError, try_commit_later, try_show_later};
+use guarded_core::{KeptCore, PortRead, TryError, try_commit_later, try_show_later};
 use iofd_words::{Answer, Burst, DeviceNo, Iova, NoMemory};
 use iommufd_core::Stamp;
 use lane_lock::NotNow;
@@ -44,11 +44,13 @@ impl<A: Allocator + Copy> Server<A> {
             r.0 r.1 pass.new) }
         ensures refused { IfErr result (RefusesRead (view_of pass.old) (view_of pass.new) (lane_of pass.old)) }
     {
-        try_show_later(
-            &self.lock,
-            pass,
-            &|kept: &KeptCore<A>| { kept.read(cache, device, iova, len) },
-        )
+        let read = PortRead {
+            cache,
+            device,
+            iova,
+            len,
+        };
+        try_show_later(&self.lock, pass, read, KeptCore::read)
     }
 
     // Writes for a device by what a cache keeps, without waiting.

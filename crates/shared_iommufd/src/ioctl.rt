@@ -8,7 +8,7 @@ ghost use Rattle.shared_iommufd.specs.Ioctls.{Answers, AnswersEvent, AnswersSet,
 
 use crate::ioctl_answer::IoctlAnswer;
 use crate::server::{Pass, Server};
-use guarded_core::{KeptCore, TryError, show, try_show};
+use guarded_core::{KeptCore, ObjectOf, TryError, show, try_show};
 use ioctl_codec::{
     Asked, Command, DecodeError, RangesRequest, decode, encode_ranges, encode_reply_to, errno_of,
     ranges_errno,
@@ -257,12 +257,11 @@ impl<A: Allocator + Copy> Server<A> {
         ensures told { IfOk result (λ answer. IsTold (settings_of self.now) pass.old file request answer pass.new) }
         ensures none { OnErr result (OnlySees (view_of pass.old) (view_of pass.new)) }
     {
-        let ranges = show(
-            rt,
-            &self.lock,
-            pass,
-            &|kept: &KeptCore<A>| kept.ranges(file, request.ioas),
-        );
+        let ioas = ObjectOf {
+            file,
+            id: request.ioas,
+        };
+        let ranges = show(rt, &self.lock, pass, ioas, KeptCore::ranges);
         answer_ranges(self.alloc, request, ranges)
     }
 
@@ -279,11 +278,11 @@ impl<A: Allocator + Copy> Server<A> {
         ensures told { IfOk result (λ answer. IsTold (settings_of self.now) pass.old file request answer pass.new) }
         ensures refused { IfErr result (RefusesLook (lane_of pass.old) (view_of pass.old) (view_of pass.new)) }
     {
-        match try_show(
-            &self.lock,
-            pass,
-            &|kept: &KeptCore<A>| kept.ranges(file, request.ioas),
-        ) {
+        let ioas = ObjectOf {
+            file,
+            id: request.ioas,
+        };
+        match try_show(&self.lock, pass, ioas, KeptCore::ranges) {
             Ok(ranges) => match answer_ranges(self.alloc, request, ranges) {
                 Ok(answer) => Ok(answer),
                 Err(error) => Err(TryError::Call(error)),

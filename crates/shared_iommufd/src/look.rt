@@ -25,7 +25,7 @@ impl<A: Allocator + Copy> Server<A> {
         ensures sees { OnlySees (view_of pass.old) (view_of pass.new) }
         ensures answer { IsAnswered (settings_of self.now) pass.new query.now result }
     {
-        show(rt, &self.lock, pass, &|kept: &KeptCore<A>| kept.look(query))
+        show(rt, &self.lock, pass, query, KeptCore::look)
     }
 
     /// The same without waiting. NotNow where the lane of the pass is held or empty: then the pass has seen what it had
@@ -39,6 +39,6 @@ impl<A: Allocator + Copy> Server<A> {
         ensures answer { IfOk result (IsAnswered (settings_of self.now) pass.new query.now) }
         ensures refused { IfErr result (RefusesRead (view_of pass.old) (view_of pass.new) (lane_of pass.old)) }
     {
-        try_show(&self.lock, pass, &|kept: &KeptCore<A>| kept.look(query))
+        try_show(&self.lock, pass, query, KeptCore::look)
     }
 }

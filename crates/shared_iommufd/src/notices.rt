@@ -1,7 +1,7 @@
 //! The question for an access object's notices, whose answer takes memory.
 
 use crate::server::{Pass, Server};
-use guarded_core::{KeptCore, TryError, show, try_show};
+use guarded_core::{KeptCore, ObjectOf, TryError, show, try_show};
 use iofd_words::{CallError, FileNo, ObjId, Span};
 use std::alloc::Allocator;
 use std::sync::Wait;
@@ -31,12 +31,8 @@ impl<A: Allocator + Copy> Server<A> {
         ensures sees { OnlySees (view_of pass.old) (view_of pass.new) }
         ensures notices { AreNotices (settings_of self.now) pass.new file access result }
     {
-        show(
-            rt,
-            &self.lock,
-            pass,
-            &|kept: &KeptCore<A>| { kept.notices(file, access) },
-        )
+        let access = ObjectOf { file, id: access };
+        show(rt, &self.lock, pass, access, KeptCore::notices)
     }
 
     /// The same without waiting. NotNow where the lane of the pass is held or empty.
@@ -52,11 +48,8 @@ impl<A: Allocator + Copy> Server<A> {
         ensures sees { OnlySees (view_of pass.old) (view_of pass.new) }
         ensures notices { AreTriedNotices (settings_of self.now) pass.old pass.new file access result }
     {
-        match try_show(
-            &self.lock,
-            pass,
-            &|kept: &KeptCore<A>| { kept.notices(file, access) },
-        ) {
+        let access = ObjectOf { file, id: access };
+        match try_show(&self.lock, pass, access, KeptCore::notices) {
             Ok(Ok(notices)) => Ok(notices),
             Ok(Err(failed)) => Err(TryError::Call(failed)),
             Err(refused) => Err(TryError::NotNow(refused)),

@@ -60,6 +60,13 @@ impl<A: Allocator + Copy> Port<A> {
     ghost use Rattle.std.specs.Prelude.{◌≡◌};
     ghost use Rattle.shared_iommufd.specs.Ports.{most_of};
 
+    /// The number of its device.
+    pub fn device(&self) -> DeviceNo
+        ensures { result ≡ self.now.device }
+    {
+        self.device
+    }
+
     /// The place, among the records, of the last one that the latest call made: the latest read, write, flush,
     /// attachment or detachment by this port, waiting or not. None where it made none.
     pub fn last(&self) -> Option<u64>

@@ -30,7 +30,7 @@ pub struct Server<A: Allocator + Copy = Global> {
 }
 
 impl<A: Allocator + Copy> Server<A> {
-    ghost use Rattle.std.specs.Prelude.{IfErr, IfOk, None, OnOk};
+    ghost use Rattle.std.specs.Prelude.{◌≤◌, IfErr, IfOk, IfSome, None, OnOk};
     ghost use Rattle.lane_lock.specs.Passes.{AllNew, lanes_of};
     ghost use Rattle.shared_iommufd.specs.Limits.{IsRefusedFor, first_outside};
     ghost use Rattle.shared_iommufd.specs.Ports.{AllKeys};
@@ -60,19 +60,38 @@ impl<A: Allocator + Copy> Server<A> {
         }
         // Whoever asks a configuration for its pool learns that it is within its limits.
         let _pool = config.pool();
-        let passes = config.passes();
         let Some(most) = NonZeroUsize::new(usize::from(cache)) else {
             unreachable!()
         };
         let Ok(keys) = keys_of(alloc, global, config.devices().len(), most) else {
             return Err(ConfigError::Memory);
         };
+        match Server::without_keys(alloc, global, config, lanes) {
+            Some((server, passes)) => Ok((server, passes, keys)),
+            None => Err(ConfigError::Memory),
+        }
+    }
+
+    // The server and its passes, unless memory is wanting.
+    fn without_keys<B: Allocator>(
+        alloc: A,
+        global: Global,
+        config: &Config<B>,
+        lanes: u16,
+    ) -> Option<(Server<A>, Vec<Pass<A>>)>
+        requires lanes { (1 ≤ lanes) × (lanes ≤ 64) }
+        ensures settings { IfSome result (λ r. settings_of r.0 ≡ config.now) }
+        ensures lanes { IfSome result (λ r. lanes_of r.0.lock ≡ lanes) }
+        ensures passes { IfSome result (λ r. AllNew r.0.lock config.now.passes r.1.items) }
+    {
+        let _pool = config.pool();
+        let passes = config.passes();
         let Ok(core) = Core::new(alloc, config) else {
-            return Err(ConfigError::Memory);
+            return None;
         };
         match LaneLock::new(global, KeptCore { core }, lanes, passes) {
-            Ok((lock, passes)) => Ok((Server { lock, alloc }, passes, keys)),
-            Err(_) => Err(ConfigError::Memory),
+            Ok((lock, passes)) => Some((Server { lock, alloc }, passes)),
+            Err(_) => None,
         }
     }
 }

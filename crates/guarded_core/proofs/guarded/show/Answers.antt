@@ -9,5 +9,5 @@ returns-clause-shown g c =
       c.get.result.now,
       shown _ _ _ _ _ c.read-guard.ensures.lock get.seen get.opened get.legal end.same_pass end.history _
           (search rules),
-      record { shown = c.get.result; shows = refl; says = record { met = c.ask-answer.ensures } },
+      (c.get.result, refl, c.ask-answer.ensures),
     )

@@ -9,9 +9,9 @@ returns-in-Ok-clause-shown g c =
       c.get.result.now,
       shown _ _ _ _ _ c.in-Ok.ensures.lock get.seen get.opened get.legal end.same_pass end.history _
           (search rules),
-      record { shown = c.get.result; shows = refl; says = record { met = c.ask-answer.ensures } },
+      (c.get.result, refl, c.ask-answer.ensures),
     )
 
-pub returns-in-Err-clause-sees : goal.returns-in-Err-clause-sees
-returns-in-Err-clause-sees g c =
+pub returns-clause-sees : goal.returns-clause-sees
+returns-clause-sees g c =
     sees_if_refused c.try_read.result c.in-Err.error _ _ _ _ c.in-Err.is c.try_read.follows.holds-at-none
