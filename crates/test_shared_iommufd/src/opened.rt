@@ -1,40 +1,106 @@
-//! Servers of the tests, and their ends.
+//! Servers of the tests, and the lists of their passes.
 
-ghost use Rattle.std.specs.Prelude.{IfSome};
+ghost use Rattle.std.specs.Prelude.{IfOk, IfSome};
 ghost use Rattle.lane_lock.specs.Passes.{OwnsAll};
+ghost use Rattle.shared_iommufd.specs.Ports.{AllKeys, IsKeyOf};
 ghost use Rattle.shared_iommufd.specs.Servers.{IsPassOf};
 
-use iofd_words::{Config, UserNo};
-use iommufd_core::Core;
-use shared_iommufd::{Pass, Server};
+use iofd_words::{Config, DeviceConfig, SourceId, SpanList, UserNo, Width};
+use shared_iommufd::{ConfigError, Pass, PortKey, Server};
 use std::alloc::{Allocator, Global};
 
-// A pool of 8 frames, users 1 to 4, of whom each may have 4 pinned pages, file 1 of user 1, no device, and so many
-// passes.
-pub(crate) fn config(alloc: Global, passes: u16) -> Option<Config> {
-    match ([4, 4, 4, 4].to_vec(alloc), [UserNo(1)].to_vec(alloc)) {
-        (Ok(users), Ok(files)) => Config::new(8, users, files, Vec::new(alloc), passes).ok(),
+/// How many lanes and passes a server has, and how many pages a port of it keeps.
+#[derive(Clone, Copy)]
+pub struct Size {
+    pub lanes: u16,
+    pub cache: u16,
+    pub passes: u16,
+}
+
+// A device that keeps no address for itself, but an x86 one its interrupt range.
+fn device(alloc: Global, source: u16, width: Width, x86: bool) -> DeviceConfig {
+    DeviceConfig::new(SourceId(source), width, x86, SpanList::new(Vec::new(alloc)))
+}
+
+fn devices(alloc: Global) -> Option<Vec<DeviceConfig>> {
+    let mut devices = Vec::with_capacity(alloc, 3).ok()?;
+    devices.push(device(alloc, 0x10, Width::Bits39, true)).ok()?;
+    devices
+        .push(device(alloc, 0x18, Width::Bits39, false))
+        .ok()?;
+    devices
+        .push(device(alloc, 0x100, Width::Bits48, false))
+        .ok()?;
+    Some(devices)
+}
+
+/// A pool of 16 frames, users of whom the first may have 8 pinned pages and the second 2, two files of user 1 and one
+/// of user 2, three devices, and so many passes.
+pub fn config(alloc: Global, passes: u16) -> Option<Config> {
+    match (
+        [8, 2].to_vec(alloc),
+        [UserNo(1), UserNo(1), UserNo(2)].to_vec(alloc),
+        devices(alloc),
+    ) {
+        (Ok(users), Ok(files), Some(devices)) => Config::new(
+            16, users, files, devices, passes,
+        ).ok(),
         _ => None,
     }
 }
 
-// A server of two lanes with so many passes, its core in memory of this allocator.
-pub(crate) fn server<A: Allocator + Copy>(
-    alloc: A,
-    global: Global,
-    passes: u16,
-) -> Option<(Server<A>, Vec<Pass<A>>)>
-    ensures { IfSome result (λ r. OwnsAll r.0.lock r.1.items) }
+// The key of the first device, of those of a server whose ports keep so many pages.
+fn first_key<A: Allocator + Copy>(
+    server: &Server<A>,
+    keys: &mut Vec<PortKey<A>>,
+    cache: u16,
+) -> Option<PortKey<A>>
+    requires { AllKeys server.now cache keys.old.items }
+    ensures { IfSome result (IsKeyOf server.now) }
 {
-    let config = config(global, passes)?;
-    match Server::new(alloc, global, &config, 2, 1) {
-        Ok((server, passes, _keys)) => Some((server, passes)),
-        Err(_) => None,
+    let _ = server;
+    let _ = cache;
+    if keys.is_empty() {
+        None
+    } else {
+        Some(keys.swap_remove(0))
     }
 }
 
-// The last of the passes.
-pub(crate) fn last_pass<A: Allocator + Copy>(
+/// A server of this size, its core in memory of the first allocator, with the key of device 1 and all passes; or why
+/// there is none.
+pub fn opened<A: Allocator + Copy>(
+    alloc: A,
+    global: Global,
+    size: Size,
+) -> Result<(Server<A>, PortKey<A>, Vec<Pass<A>>), ConfigError>
+    ensures { IfOk result (λ r. IsKeyOf r.0 r.1 × OwnsAll r.0.lock r.2.items) }
+{
+    match config(global, size.passes) {
+        Some(config) => opened_with(alloc, global, &config, size),
+        None => Err(ConfigError::Memory),
+    }
+}
+
+fn opened_with<A: Allocator + Copy>(
+    alloc: A,
+    global: Global,
+    config: &Config,
+    size: Size,
+) -> Result<(Server<A>, PortKey<A>, Vec<Pass<A>>), ConfigError>
+    ensures { IfOk result (λ r. IsKeyOf r.0 r.1 × OwnsAll r.0.lock r.2.items) }
+{
+    match Server::new(alloc, global, config, size.lanes, size.cache) {
+        Ok((server, passes, mut keys)) => match first_key(&server, &mut keys, size.cache) {
+            Some(key) => Ok((server, key, passes)),
+            None => Err(ConfigError::Memory),
+        },
+        Err(error) => Err(error),
+    }
+}
+
+/// The last of the passes.
+pub fn last_pass<A: Allocator + Copy>(
     server: &Server<A>,
     passes: &mut Vec<Pass<A>>,
 ) -> Option<Pass<A>>
@@ -46,8 +112,8 @@ pub(crate) fn last_pass<A: Allocator + Copy>(
     passes.pop()
 }
 
-// Puts the pass behind the others, if there is memory.
-fn put_last<A: Allocator + Copy>(
+/// Puts the pass behind the others, if there is memory.
+pub fn put_last<A: Allocator + Copy>(
     server: &Server<A>,
     passes: &mut Vec<Pass<A>>,
     pass: Pass<A>,
@@ -57,16 +123,4 @@ fn put_last<A: Allocator + Copy>(
 {
     let _ = server;
     passes.push(pass).is_ok()
-}
-
-// The core in the end, to which the pass that was taken comes back.
-pub(crate) fn closed<A: Allocator + Copy>(
-    server: Server<A>,
-    mut passes: Vec<Pass<A>>,
-    last: Pass<A>,
-) -> Option<Core<A>>
-    requires { OwnsAll server.lock passes.items × IsPassOf server last }
-{
-    put_last(&server, &mut passes, last);
-    server.close(passes).ok()
 }

@@ -1,45 +1,50 @@
-//! Four threads at once, each with a pass.
+//! Four passes in threads of their own make each record once.
 
 ghost use Rattle.std.specs.Prelude.{◌≡◌, false};
 ghost use Rattle.lane_lock.specs.Passes.{OwnsAll};
 ghost use Rattle.guarded_core.specs.OfPort.{event_of_port};
 ghost use Rattle.shared_iommufd.specs.Servers.{IsPassOf};
 
-use crate::opened::server;
-use iofd_words::{Act, Answer, Event, PassNo, Query, Record, UserNo};
-use shared_iommufd::{CloseError, Core, Pass, Server};
-use std::alloc::Global;
+use crate::rows::count_records;
+use crate::steps::stamp;
+use iofd_words::{Act, Event, PassNo, Record, UserNo};
+use shared_iommufd::{Pass, Server};
 use std::sync::Wait;
 use std::thread::{Threads, for_each_mut};
 
 const STEPS: u32 = 100;
 
-const VA: u64 = 0x10000;
+const USER: UserNo = UserNo(1);
 
-// The user gets the page, and gives it up again.
-fn event(user: UserNo, step: u32) -> Event
+// Where the user has the page of a pass.
+fn va_of(pass: PassNo) -> u64 {
+    0x10000 + u64::from(pass.0) * 0x1000
+}
+
+// The user gets the pass's page, and gives it up again.
+fn event(pass: PassNo, step: u32) -> Event
     ensures { event_of_port result ≡ false }
 {
     if step % 2 == 0 {
-        Event::UserMap(user, VA)
+        Event::UserMap(USER, va_of(pass))
     } else {
-        Event::UserUnmap(user, VA)
+        Event::UserUnmap(USER, va_of(pass))
     }
 }
 
-// Makes the steps of the pass's own user, and looks after each.
+// Makes the pass's own steps, and looks after each.
 fn work<R: Wait>(rt: &R, server: &Server, pass: &mut Pass)
     requires { IsPassOf server.now pass.old }
     ensures { IsPassOf server.now pass.new }
 {
-    let user = UserNo(pass.number().0.saturating_add(1));
+    let number = pass.number();
     for step in 0..STEPS {
         let act = Act {
-            event: event(user, step),
+            event: event(number, step),
             via: None,
         };
-        let _stamp = server.call(rt, pass, &act);
-        let _answer: Answer = server.look(rt, pass, &Query::FreeFrames);
+        let _stamp = stamp(rt, server, pass, &act, true);
+        let _count = count_records(rt, server, pass);
     }
 }
 
@@ -59,12 +64,20 @@ fn four_work<R: Threads + Wait + Sync>(rt: &R, server: &Server, passes: &mut [Pa
     );
 }
 
+/// They do, and are done.
+pub fn all_work<R: Threads + Wait + Sync>(rt: &R, server: &Server, passes: &mut Vec<Pass>) -> bool
+    requires { OwnsAll server.now.lock passes.old.items }
+    ensures { OwnsAll server.now.lock passes.new.items }
+{
+    four_work(rt, server, passes);
+    true
+}
+
 // Whether the record is the pass's own at this step.
 fn is_step(record: &Record, pass: PassNo, step: u32) -> bool {
-    let user = UserNo(pass.0.saturating_add(1));
     match &record.event {
-        Event::UserMap(of, _) => *of == user && step % 2 == 0,
-        Event::UserUnmap(of, _) => *of == user && step % 2 == 1,
+        Event::UserMap(_, va) => *va == va_of(pass) && step % 2 == 0,
+        Event::UserUnmap(_, va) => *va == va_of(pass) && step % 2 == 1,
         _ => false,
     }
 }
@@ -83,29 +96,11 @@ fn has_steps(records: &[Record], pass: PassNo) -> bool {
     step == STEPS
 }
 
-// Whether these are the steps of four passes.
-fn are_steps(closed: Result<Core, CloseError>) -> bool {
-    match closed {
-        Ok(core) => {
-            let records = core.records();
-            records.len() == 400 && (0..4).all(|pass| has_steps(records, PassNo(pass)))
-        }
-        Err(_) => false,
-    }
-}
-
-// Whether the four passes of a new server make them.
-fn each_record_once<R: Threads + Wait + Sync>(rt: &R, alloc: Global) -> bool {
-    match server(alloc, alloc, 4) {
-        Some((server, mut passes)) => {
-            four_work(rt, &server, &mut passes);
-            are_steps(server.close(passes))
-        }
-        None => false,
-    }
-}
-
-#[test]
-fn four_threads_make_each_record_once(rt: HostRuntime) {
-    assert!(rt; each_record_once(&rt, rt.alloc()));
+/// Whether these are the steps of four passes.
+pub fn are_of_four(records: &[Record]) -> bool {
+    records.len() == 400
+        && has_steps(records, PassNo(0))
+        && has_steps(records, PassNo(1))
+        && has_steps(records, PassNo(2))
+        && has_steps(records, PassNo(3))
 }
