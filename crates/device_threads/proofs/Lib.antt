@@ -1,0 +1,3 @@
+pub mod Done
+pub mod Pairs
+pub mod Stretches

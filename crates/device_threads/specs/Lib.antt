@@ -1,0 +1,4 @@
+pub mod Jobs
+pub mod Pairs
+pub mod Stretches
+pub mod Workers

@@ -1,0 +1,16 @@
+//! Tests of devices at work: two in threads of their own, that wait for each other; eight with many jobs while a ninth
+//! thread maps, unmaps and flushes, whose journals are audited; and one that never flushes.
+#![tactic(auto)]
+
+#[cfg(test)]
+mod at_once;
+#[cfg(test)]
+mod checks;
+#[cfg(test)]
+mod meeting;
+#[cfg(test)]
+mod opened;
+#[cfg(test)]
+mod stubborn;
+#[cfg(test)]
+mod tasks;
