@@ -1,0 +1,4 @@
+pub mod Configured
+pub mod Exports
+pub mod Outcomes
+pub mod Statuses

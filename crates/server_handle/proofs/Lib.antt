@@ -1,0 +1,4 @@
+mod Given
+mod Handled
+mod Loosened
+mod Words

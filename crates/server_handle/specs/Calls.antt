@@ -1,0 +1,74 @@
+-- What the calls of callers and of devices' ports do: what those of the server do, by this pass or port.
+use Rattle.std.specs.Prelude.{◌≡◌, ℕ, List, None, Result, IfOk, IfErr}
+use Rattle.std.specs.Arc.{arc_value}
+use Rattle.std.specs.declared.alloc.Global.{Global}
+use Rattle.iofd_words.specs.declared.event.Event.{Event}
+use Rattle.iofd_words.specs.declared.numbers.FileNo.{FileNo}
+use Rattle.iofd_words.specs.declared.query.Answer.{Answer}
+use Rattle.iofd_words.specs.declared.query.Query.{Query}
+use Rattle.iofd_words.specs.declared.refusal.NoMemory.{NoMemory}
+use Rattle.iommufd_core.specs.declared.apply.Stamp.{Stamp}
+use Rattle.lane_lock.specs.Outcomes.{OnlySees, RefusesRead}
+use Rattle.lane_lock.specs.Passes.{lane_of, lanes_of, view_of}
+use Rattle.lane_lock.specs.declared.refusal.NotNow.{NotNow}
+use Rattle.guarded_core.specs.Guarded.{RefusesCommit}
+use Rattle.guarded_core.specs.declared.try_error.TryError.{TryError}
+use Rattle.shared_iommufd.specs.Ioctls.{IsDecoded, RefusesIoctl}
+use Rattle.shared_iommufd.specs.Made.{Makes, act_of}
+use Rattle.shared_iommufd.specs.PortReads.{Reads}
+use Rattle.shared_iommufd.specs.PortWrites.{Writes}
+use Rattle.shared_iommufd.specs.Ports.{KeepsNothing, most_of, standing_of}
+use Rattle.shared_iommufd.specs.Seen.{IsAnswered}
+use Rattle.shared_iommufd.specs.Servers.{settings_of}
+use Rattle.shared_iommufd.specs.declared.ioctl_answer.IoctlAnswer.{IoctlAnswer}
+use Rattle.server_handle.specs.Callers.{SameCaller, SameDevice}
+use Rattle.server_handle.specs.Turns.{turn_event}
+use Rattle.server_handle.specs.declared.caller.Caller.{Caller}
+use Rattle.server_handle.specs.declared.device.Access.{Access}
+use Rattle.server_handle.specs.declared.device.Device.{Device}
+use Rattle.server_handle.specs.declared.turn.Turn.{Turn}
+
+-- the caller's pass made one record, of this event, which the stamp tells; or none was made
+pub record Calls (event : Event Global) (c : Caller) (told : Result Stamp (TryError NoMemory)) (d : Caller) : Type 0
+  where
+    pub same : SameCaller c d
+    pub made : IfOk told (λ stamp. Makes (settings_of (arc_value c.server)) c.pass (act_of event) stamp d.pass)
+    pub refused : IfErr told (RefusesCommit (lanes_of (arc_value c.server).lock) (view_of c.pass) (view_of d.pass))
+
+-- the question is answered after all records that the pass has then seen; or its lane couldn't be had
+pub record Looks (query : Query) (c : Caller) (told : Result Answer NotNow) (d : Caller) : Type 0 where
+  pub same : SameCaller c d
+  pub sees : OnlySees (view_of c.pass) (view_of d.pass)
+  pub answer : IfOk told (λ answer. IsAnswered (settings_of (arc_value c.server)) d.pass query answer)
+  pub refused : IfErr told (RefusesRead (view_of c.pass) (view_of d.pass) (lane_of c.pass))
+
+-- the file's ioctl of this number and these bytes is carried out; or nothing was made
+pub record Serves (file : FileNo) (number : ℕ) (bytes : List ℕ) (c : Caller)
+    (told : Result (IoctlAnswer Global) (TryError NoMemory)) (d : Caller) : Type 0 where
+  pub same : SameCaller c d
+  pub served : IfOk told (λ answer. IsDecoded (settings_of (arc_value c.server)) c.pass file number bytes answer d.pass)
+  pub refused : IfErr told (RefusesIoctl (lanes_of (arc_value c.server).lock) (lane_of c.pass) (view_of c.pass)
+      (view_of d.pass))
+
+-- the device's turn made one record, which the stamp tells, or none; the port keeps nothing
+pub record TakesTurn (turn : Turn) (p : Device) (told : Result Stamp (TryError NoMemory)) (q : Device) : Type 0 where
+  pub same : SameDevice p q
+  pub made : IfOk told (λ stamp. Makes (settings_of (arc_value p.server)) p.port.pass
+      (act_of (turn_event p.port.device turn)) stamp q.port.pass)
+  pub refused : IfErr told (RefusesCommit (lanes_of (arc_value p.server).lock) (view_of p.port.pass)
+      (view_of q.port.pass))
+  pub empty : KeepsNothing q.port
+
+-- the device reads into a buffer, from the address on, as far as it comes; it makes no record
+pub record ReadsBytes (address : ℕ) (old new : List ℕ) (p : Device) (access : Access) (q : Device) : Type 0 where
+  pub same : SameDevice p q
+  pub sees : OnlySees (view_of p.port.pass) (view_of q.port.pass)
+  pub reads : Reads (settings_of (arc_value p.server)) p.port.device (most_of p.port) address old (standing_of p.port)
+      access.ended (standing_of q.port) new
+  pub last : access.last ≡ None
+
+-- the device writes these bytes, from the address on, as far as it comes
+pub record WritesBytes (address : ℕ) (bytes : List ℕ) (p : Device) (access : Access) (q : Device) : Type 0 where
+  pub same : SameDevice p q
+  pub writes : Writes (settings_of (arc_value p.server)) (lanes_of (arc_value p.server).lock) p.port.device
+      (most_of p.port) address bytes (standing_of p.port) access.ended (standing_of q.port) access.last

@@ -1,0 +1,172 @@
+//! A caller of a server.
+
+ghost use Rattle.std.specs.Prelude.{◌≡◌, ◌<◌, ◌++◌, ◌∷◌, [], length};
+ghost use Rattle.std.specs.Arc.{arc_value};
+ghost use Rattle.shared_iommufd.specs.Ports.{IsKeyOf};
+ghost use Rattle.shared_iommufd.specs.Servers.{IsPassOf};
+ghost use Rattle.server_handle.specs.Given.{AreKeysOf, ArePassesOf};
+
+use crate::device::Device;
+use crate::error::GiveError;
+use iofd_words::{Act, Answer, Config, Event, FileNo, NoMemory, Query};
+use shared_iommufd::{ConfigError, IoctlAnswer, NotNow, Pass, PortKey, Server, Stamp, TryError};
+use std::alloc::{AllocError, Global};
+use std::sync::Arc;
+
+/// A caller of a server: a share of it, and a pass. Its calls are made one at a time, and none waits.
+///
+/// The one that opened the server has also what nobody has yet: passes, and the keys of the first devices.
+#[derive(Drop)]
+pub struct Caller {
+    pub(crate) server: Arc<Server, Global>,
+    pub(crate) pass: Pass,
+    pub(crate) spare: Vec<Pass>,
+    pub(crate) keys: Vec<PortKey>,
+    ghost owned: { IsPassOf (arc_value server) pass },
+    ghost spared: { ArePassesOf (arc_value server) spare.items },
+    ghost keyed: { AreKeysOf (arc_value server) keys.items },
+}
+
+// Takes the last of the passes, which are the server's.
+fn last_pass(server: &Arc<Server, Global>, spare: &mut Vec<Pass>) -> Pass
+    requires owned { ArePassesOf (arc_value server.now) spare.old.items }
+    requires some { 0 < length spare.old.items }
+    ensures taken { IsPassOf (arc_value server.now) result }
+    ensures left { ArePassesOf (arc_value server.now) spare.new.items }
+    ensures items { spare.old.items ≡ spare.new.items ++ result ∷ [] }
+{
+    let _ = server;
+    let Some(pass) = spare.pop() else {
+        unreachable!()
+    };
+    pass
+}
+
+// Takes the last of the keys, which are those of the server's first devices.
+fn last_key(server: &Arc<Server, Global>, keys: &mut Vec<PortKey>) -> PortKey
+    requires owned { AreKeysOf (arc_value server.now) keys.old.items }
+    requires some { 0 < length keys.old.items }
+    ensures taken { IsKeyOf (arc_value server.now) result }
+    ensures number { result.device.0 ≡ length keys.old.items }
+    ensures left { AreKeysOf (arc_value server.now) keys.new.items }
+    ensures items { keys.old.items ≡ keys.new.items ++ result ∷ [] }
+{
+    let _ = server;
+    let Some(key) = keys.pop() else {
+        unreachable!()
+    };
+    key
+}
+
+impl Caller {
+    ghost use Rattle.std.specs.Prelude.{IfErr, IfOk, false};
+    ghost use Rattle.guarded_core.specs.OfPort.{event_of_port, query_of_port};
+    ghost use Rattle.shared_iommufd.specs.Limits.{IsRefusedFor};
+    ghost use Rattle.server_handle.specs.Callers.{GivesPort, GivesShare, IsFirst};
+    ghost use Rattle.server_handle.specs.Calls.{Calls, Looks, Serves};
+
+    /// Opens a server with this configuration. Its first caller has the last of its passes, all others to give, and the
+    /// keys of all devices. The limits are those of `Server::new`.
+    ///
+    /// The error is the first of lanes and cache that is outside its limits, or that memory was wanting.
+    pub fn open(
+        alloc: Global,
+        config: &Config,
+        lanes: u16,
+        cache: u16,
+    ) -> Result<Caller, ConfigError>
+        ensures first { IfOk result (IsFirst config.now lanes cache) }
+        ensures refused { IfErr result (IsRefusedFor lanes cache) }
+    {
+        // Whoever asks a configuration for its pool learns that it is within its limits.
+        let _pool = config.pool();
+        match Server::new(alloc, alloc, config, lanes, cache) {
+            Ok((server, mut spare, keys)) => match Arc::new(alloc, server) {
+                Ok(server) => {
+                    let pass = last_pass(&server, &mut spare);
+                    Ok(Caller {
+                        server,
+                        pass,
+                        spare,
+                        keys,
+                    })
+                }
+                Err(_) => Err(ConfigError::Memory),
+            },
+            Err(error) => Err(error),
+        }
+    }
+
+    /// Another caller of the same server, who has the last of the passes that this one has to give, and none to give.
+    pub fn share(&mut self, alloc: Global) -> Result<Caller, GiveError>
+        ensures { GivesShare self.old self.new result }
+    {
+        let server: Result<Arc<Server, Global>, AllocError> = self.server.clone();
+        let Ok(server) = server else {
+            return Err(GiveError::Memory);
+        };
+        if self.spare.is_empty() {
+            return Err(GiveError::NoneLeft);
+        }
+        let pass = last_pass(&self.server, &mut self.spare);
+        Ok(Caller {
+            server,
+            pass,
+            spare: Vec::new(alloc),
+            keys: Vec::new(alloc),
+        })
+    }
+
+    /// The port of the last device whose key this caller has, by the last of the passes that it has to give.
+    pub fn port(&mut self) -> Result<Device, GiveError>
+        ensures { GivesPort self.old self.new result }
+    {
+        let server: Result<Arc<Server, Global>, AllocError> = self.server.clone();
+        let Ok(server) = server else {
+            return Err(GiveError::Memory);
+        };
+        if self.keys.is_empty() || self.spare.is_empty() {
+            return Err(GiveError::NoneLeft);
+        }
+        let pass = last_pass(&self.server, &mut self.spare);
+        let key = last_key(&self.server, &mut self.keys);
+        let port = server.port(key, pass);
+        Ok(Device { server, port })
+    }
+
+    /// How many devices' keys this caller has: those of the first devices.
+    pub fn keys_left(&self) -> usize
+        ensures { result ≡ length self.now.keys.items }
+    {
+        self.keys.len()
+    }
+
+    /// Applies an event, as `Server::try_call` does. One that only a port makes isn't allowed.
+    pub fn call(&mut self, event: Event) -> Result<Stamp, TryError<NoMemory>>
+        requires { event_of_port event ≡ false }
+        ensures { Calls event self.old result self.new }
+    {
+        let act = Act { event, via: None };
+        self.server.try_call(&mut self.pass, &act)
+    }
+
+    /// Answers a question, as `Server::try_look` does. One that only a port asks isn't allowed.
+    pub fn look(&mut self, query: &Query) -> Result<Answer, NotNow>
+        requires { query_of_port query.now ≡ false }
+        ensures { Looks query.now self.old result self.new }
+    {
+        self.server.try_look(&mut self.pass, query)
+    }
+
+    /// Carries out a call of ioctl, as `Server::try_ioctl` does.
+    pub fn ioctl(
+        &mut self,
+        file: FileNo,
+        number: u32,
+        bytes: &[u8],
+    ) -> Result<IoctlAnswer, TryError<NoMemory>>
+        ensures { Serves file number bytes.now self.old result self.new }
+    {
+        self.server.try_ioctl(&mut self.pass, file, number, bytes)
+    }
+}

@@ -1,0 +1,308 @@
+//! Calls by handles.
+
+ghost use Rattle.std.specs.Prelude.{◌≡◌, IfErr, IfOk, IfSome, Some};
+ghost use Rattle.shared_iommufd.specs.Limits.{IsRefusedFor};
+ghost use Rattle.server_handle.specs.Callers.{IsFirst};
+ghost use Rattle.server_handle.specs.Handles.{HasCaller};
+
+use crate::caller::Caller;
+use crate::client::Client;
+use crate::device::{Access, Device};
+use crate::error::{GiveError, OpenError};
+use crate::handle::Handle;
+use crate::turn::Turn;
+use iofd_words::{Answer, Config, Event, FileNo, Iova, NoMemory, Query};
+use shared_iommufd::{ConfigError, IoctlAnswer, NotNow, Stamp, TryError};
+use std::alloc::Global;
+
+fn boxed(alloc: Global, client: Client) -> Option<Box<Client>>
+    ensures { IfSome result (λ it. it.value ≡ client) }
+{
+    match Box::new(alloc, client) {
+        Ok(client) => Some(client),
+        Err(_) => None,
+    }
+}
+
+// Room for a client that is to come.
+fn room(alloc: Global) -> Option<Box<Client>> {
+    boxed(alloc, Client::Vacant)
+}
+
+// The client of a new server's first caller. See `Caller::open`.
+fn opened(
+    alloc: Global,
+    config: &Config,
+    lanes: u16,
+    cache: u16,
+) -> Result<Box<Client>, ConfigError>
+    ensures first { IfOk result (λ it. HasCaller (Some it.value) (IsFirst config.now lanes cache)) }
+    ensures refused { IfErr result (IsRefusedFor lanes cache) }
+{
+    match Caller::open(alloc, config, lanes, cache) {
+        Ok(caller) => match boxed(alloc, Client::Caller(caller)) {
+            Some(client) => Ok(client),
+            None => Err(ConfigError::Memory),
+        },
+        Err(error) => Err(error),
+    }
+}
+
+// Opens a handle with a client, which lies in the room then.
+fn put(handle: &mut Handle, mut room: Box<Client>, client: Client)
+    ensures { handle.new.client ≡ Some client }
+{
+    *room = client;
+    *handle = Handle::of(room);
+}
+
+impl Handle {
+    ghost use Rattle.std.specs.Prelude.{IfNone, None, false, is_some, length};
+    ghost use Rattle.guarded_core.specs.OfPort.{event_of_port, query_of_port};
+    ghost use Rattle.server_handle.specs.Callers.{GivesPort, GivesShare};
+    ghost use Rattle.server_handle.specs.Calls.{Calls, Looks, ReadsBytes, Serves, TakesTurn, WritesBytes};
+    ghost use Rattle.server_handle.specs.Handles.{GivesDevice, OnCaller, OnDevice, Opens, Shares};
+
+    /// Opens a server with this configuration, for a handle that is closed. See `Caller::open`.
+    pub fn open(
+        &mut self,
+        alloc: Global,
+        config: &Config,
+        lanes: u16,
+        cache: u16,
+    ) -> Result<(), OpenError>
+        ensures { Opens self.old.client config.now lanes cache result self.new.client }
+    {
+        if self.is_open(alloc) {
+            return Err(OpenError::Open);
+        }
+        match opened(alloc, config, lanes, cache) {
+            Ok(client) => {
+                *self = Handle::of(client);
+                Ok(())
+            }
+            Err(error) => Err(OpenError::Server(error)),
+        }
+    }
+
+    /// Opens another handle, which is closed, for another caller of the same server. See `Caller::share`.
+    pub fn share(&mut self, alloc: Global, other: &mut Handle) -> Result<(), GiveError>
+        ensures { Shares self.old.client other.old.client result self.new.client other.new.client }
+    {
+        if other.is_open(alloc) {
+            return Err(GiveError::Open);
+        }
+        match room(alloc) {
+            Some(room) => self.share_into(alloc, room, other),
+            None => Err(GiveError::Memory),
+        }
+    }
+
+    // The same, with room for what the other handle is to stand for.
+    fn share_into(
+        &mut self,
+        alloc: Global,
+        room: Box<Client>,
+        other: &mut Handle,
+    ) -> Result<(), GiveError>
+        requires { other.old.client ≡ None }
+        ensures { Shares self.old.client other.old.client result self.new.client other.new.client }
+    {
+        match self.give_share(alloc) {
+            Some(Ok(caller)) => {
+                put(other, room, Client::Caller(caller));
+                Ok(())
+            }
+            Some(Err(error)) => Err(error),
+            None => Err(GiveError::NoCaller),
+        }
+    }
+
+    /// Opens another handle, which is closed, for the port of a device, whose number is told. See `Caller::port`.
+    pub fn port(&mut self, alloc: Global, other: &mut Handle) -> Result<usize, GiveError>
+        ensures { GivesDevice self.old.client other.old.client result self.new.client other.new.client }
+    {
+        if other.is_open(alloc) {
+            return Err(GiveError::Open);
+        }
+        match room(alloc) {
+            Some(room) => self.port_into(alloc, room, other),
+            None => Err(GiveError::Memory),
+        }
+    }
+
+    // The same, with room for what the other handle is to stand for.
+    fn port_into(
+        &mut self,
+        alloc: Global,
+        room: Box<Client>,
+        other: &mut Handle,
+    ) -> Result<usize, GiveError>
+        requires { other.old.client ≡ None }
+        ensures { GivesDevice self.old.client other.old.client result self.new.client other.new.client }
+    {
+        match self.give_port(alloc) {
+            Some((number, Ok(device))) => {
+                put(other, room, Client::Device(device));
+                Ok(number)
+            }
+            Some((_, Err(error))) => Err(error),
+            None => Err(GiveError::NoCaller),
+        }
+    }
+
+    // What a caller gives to another.
+    fn give_share(&mut self, alloc: Global) -> Option<Result<Caller, GiveError>>
+        ensures { OnCaller self.old.client result self.new.client (λ c given d. GivesShare c d given) }
+    {
+        match self.take(alloc) {
+            Some(mut client) => {
+                let given = match &mut *client {
+                    Client::Caller(caller) => Some(caller.share(alloc)),
+                    Client::Device(_) | Client::Vacant => None,
+                };
+                *self = Handle::of(client);
+                given
+            }
+            None => None,
+        }
+    }
+
+    // What a caller gives to a port, and the number of the device, if there is one.
+    fn give_port(&mut self, alloc: Global) -> Option<(usize, Result<Device, GiveError>)>
+        ensures { OnCaller self.old.client result self.new.client (λ c given d.
+            GivesPort c d given.1 × (given.0 ≡ length c.keys.items)) }
+    {
+        match self.take(alloc) {
+            Some(mut client) => {
+                let given = match &mut *client {
+                    Client::Caller(caller) => Some((caller.keys_left(), caller.port())),
+                    Client::Device(_) | Client::Vacant => None,
+                };
+                *self = Handle::of(client);
+                given
+            }
+            None => None,
+        }
+    }
+
+    /// Applies an event by a caller. See `Caller::call`. None where the handle is no caller's.
+    pub fn call(&mut self, alloc: Global, event: Event) -> Option<Result<Stamp, TryError<NoMemory>>>
+        requires { event_of_port event ≡ false }
+        ensures { OnCaller self.old.client result self.new.client (Calls event) }
+    {
+        match self.take(alloc) {
+            Some(mut client) => {
+                let told = match &mut *client {
+                    Client::Caller(caller) => Some(caller.call(event)),
+                    Client::Device(_) | Client::Vacant => None,
+                };
+                *self = Handle::of(client);
+                told
+            }
+            None => None,
+        }
+    }
+
+    /// Answers a question of a caller. See `Caller::look`. None where the handle is no caller's.
+    pub fn look(&mut self, alloc: Global, query: &Query) -> Option<Result<Answer, NotNow>>
+        requires { query_of_port query.now ≡ false }
+        ensures { OnCaller self.old.client result self.new.client (Looks query.now) }
+    {
+        match self.take(alloc) {
+            Some(mut client) => {
+                let told = match &mut *client {
+                    Client::Caller(caller) => Some(caller.look(query)),
+                    Client::Device(_) | Client::Vacant => None,
+                };
+                *self = Handle::of(client);
+                told
+            }
+            None => None,
+        }
+    }
+
+    /// Carries out a caller's call of ioctl. See `Caller::ioctl`. None where the handle is no caller's.
+    pub fn ioctl(
+        &mut self,
+        alloc: Global,
+        file: FileNo,
+        number: u32,
+        bytes: &[u8],
+    ) -> Option<Result<IoctlAnswer, TryError<NoMemory>>>
+        ensures { OnCaller self.old.client result self.new.client (Serves file number bytes.now) }
+    {
+        match self.take(alloc) {
+            Some(mut client) => {
+                let told = match &mut *client {
+                    Client::Caller(caller) => Some(caller.ioctl(file, number, bytes)),
+                    Client::Device(_) | Client::Vacant => None,
+                };
+                *self = Handle::of(client);
+                told
+            }
+            None => None,
+        }
+    }
+
+    /// Takes a device's turn. See `Device::turn`. None where the handle is no port's.
+    pub fn turn(&mut self, alloc: Global, turn: Turn) -> Option<Result<Stamp, TryError<NoMemory>>>
+        ensures { OnDevice self.old.client result self.new.client (TakesTurn turn) }
+    {
+        match self.take(alloc) {
+            Some(mut client) => {
+                let told = match &mut *client {
+                    Client::Device(device) => Some(device.turn(turn)),
+                    Client::Caller(_) | Client::Vacant => None,
+                };
+                *self = Handle::of(client);
+                told
+            }
+            None => None,
+        }
+    }
+
+    /// Reads bytes of a device's memory. See `Device::read`. None where the handle is no port's; then the buffer stays
+    /// as it was.
+    pub fn read(&mut self, alloc: Global, iova: Iova, buffer: &mut [u8]) -> Option<Access>
+        ensures read { OnDevice self.old.client result self.new.client (ReadsBytes iova.0 buffer.old buffer.new) }
+        ensures kept { IfNone result (buffer.new ≡ buffer.old) }
+    {
+        match self.take(alloc) {
+            Some(mut client) => {
+                let access = match &mut *client {
+                    Client::Device(device) => Some(device.read(iova, buffer)),
+                    Client::Caller(_) | Client::Vacant => None,
+                };
+                *self = Handle::of(client);
+                access
+            }
+            None => None,
+        }
+    }
+
+    /// Writes bytes into a device's memory. See `Device::write`. None where the handle is no port's.
+    pub fn write(&mut self, alloc: Global, iova: Iova, bytes: &[u8]) -> Option<Access>
+        ensures { OnDevice self.old.client result self.new.client (WritesBytes iova.0 bytes.now) }
+    {
+        match self.take(alloc) {
+            Some(mut client) => {
+                let access = match &mut *client {
+                    Client::Device(device) => Some(device.write(iova, bytes)),
+                    Client::Caller(_) | Client::Vacant => None,
+                };
+                *self = Handle::of(client);
+                access
+            }
+            None => None,
+        }
+    }
+
+    /// Closes the handle, and frees what it had; the server with its last handle. Answers whether it was open.
+    pub fn close(&mut self, alloc: Global) -> bool
+        ensures value { result ≡ is_some self.old.client }
+        ensures closed { self.new.client ≡ None }
+    {
+        self.take(alloc).is_some()
+    }
+}

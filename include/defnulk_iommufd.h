@@ -1,0 +1,418 @@
+/* The proved iommufd server as a C library (C99).
+ *
+ * A server has a pool of frames (pages of 4096 bytes, counted from 0), users whose memory is mapped (from 1), open
+ * iommufd files, each of a user (from 1), and devices behind an IOMMU (from 1). Those who call it do so by handles:
+ * a caller's, or the port of a device. A handle has a share of the server and a pass. All calls of all handles make
+ * one history of records: a call that changes something makes one, or none.
+ *
+ * RESULTS. Each call answers an int32_t: 0, or the negative number of an errno (-EINVAL), or DEFNULK_NOT_NOW:
+ * another call is on the way, this one did nothing (but for the bytes that a port's read or write says have passed),
+ * and it has to be made again. No call waits or takes a lock. What else a call tells stands in a struct
+ * defnulk_outcome. Where outcome.cause and outcome.fault are 0, these errnos are the library's own, and the server is
+ * as it was:
+ *
+ *   -EBADF    the handle is closed, or of the other kind (a port's where a caller's is asked for, or a caller's)
+ *   -ENOMEM   there was no memory, and no record was made
+ *   -EFAULT   a pointer is null
+ *   -EINVAL   an array is too long, or arrays, handles or places for results overlap
+ *
+ * Every other errno is the server's: a refusal, with the number of its cause (docs/SCRIPT.md) in outcome.cause, which
+ * changed nothing, and is a record but for a question; or a denied access, -EFAULT with the reason in outcome.fault.
+ * For defnulk_ioctl, which has no outcome, the errno is what the kernel's call answers.
+ *
+ * HANDLES. A handle begins as DEFNULK_CLOSED, and is from then on only what these calls made of it: its bytes are
+ * never copied, compared or written by anybody else. (It may be moved: the old place is then DEFNULK_CLOSED again.)
+ * It is in one call at a time. Another thread may use it once that is ordered by a lock, or by a thread's start or
+ * join. Different handles, of one server too, may be used by different threads at the same time.
+ *
+ * WHAT IS TESTED, AND WHAT CAN'T BE. The calls below test that no pointer is null, that no array is longer than
+ * PTRDIFF_MAX bytes, that arrays, handles and places for results don't overlap, and that a handle is open and of the
+ * right kind. Nothing can tell a pointer to too little memory, a copied handle, one with other bytes in it, or two
+ * calls at once by one handle. The functions defnulk_raw_.. test none of it, and are called through those below
+ * alone.
+ *
+ * Not from a signal handler, nor in a forked child. Memory is taken by malloc, realloc and free, which have to align
+ * to 16 bytes.
+ */
+#ifndef DEFNULK_IOMMUFD_H
+#define DEFNULK_IOMMUFD_H
+
+#include <errno.h>
+#include <stddef.h>
+#include <stdint.h>
+
+#ifdef __cplusplus
+extern "C" {
+#endif
+
+/* The call can't be served now, and did nothing: make it again. No errno has this number. */
+#define DEFNULK_NOT_NOW (-4096)
+
+/* The least room for what an ioctl writes back, in bytes. */
+#define DEFNULK_LEAST_ROOM 64
+
+/* A handle: a caller's or a port's, or closed. */
+struct defnulk_handle {
+    void *at;
+};
+
+#define DEFNULK_CLOSED { 0 }
+
+/* What a call tells beside its result. Each call that takes one writes it, unless it is null or overlaps another. */
+struct defnulk_outcome {
+    uint64_t at;    /* the place of the last record that it made, counted from 0, where made is 1 */
+    uint64_t value; /* the number that it answers, as each call says; or 0 */
+    uint32_t made;  /* 1 where it made a record, or 0 */
+    uint16_t cause; /* the number of the cause by which it was refused, or 0 */
+    uint16_t fault; /* the number of the reason (2, 4, 5, 6) by which the IOMMU denied an access, or 0 */
+};
+
+/* A device. */
+struct defnulk_device {
+    uint16_t source; /* the id by which the IOMMU knows it: bus, device, function */
+    uint8_t width;   /* how many bits its addresses have: 39 or 48 */
+    uint8_t x86;     /* not 0 where it has the interrupt range of x86, 0xfee00000 to 0xfeefffff */
+};
+
+/* What a server is opened with. The arrays are read, and not kept. */
+struct defnulk_config {
+    const uint64_t *users; /* how many pinned pages each user may have, from user 1 on */
+    size_t user_count;     /* 1 to 255 */
+    const uint16_t *files; /* the user of each file, from file 1 on */
+    size_t file_count;     /* 1 to 1024 */
+    const struct defnulk_device *devices; /* from device 1 on; may be null where there is none */
+    size_t device_count;   /* 0 to 256 */
+    uint32_t pool;         /* the frames of the pool: 1 to 4096 */
+    uint16_t passes;       /* one for each caller's and each port's handle that is ever opened: 1 to 1024 */
+    uint16_t lanes;        /* 1 to 64: as many callers may ask at once; a call that changes something takes all */
+    uint16_t cache;        /* how many pages a port keeps translations of: 1 to 4096 */
+};
+
+/* The exports themselves. A slice is a pointer, which isn't null even for length 0, and then a length. */
+int32_t defnulk_raw_open(uint32_t pool, const uint64_t *users, size_t user_count, const uint16_t *files,
+                         size_t file_count, const struct defnulk_device *devices, size_t device_count, uint16_t passes,
+                         uint16_t lanes, uint16_t cache, struct defnulk_handle *handle);
+int32_t defnulk_raw_share(struct defnulk_handle *handle, struct defnulk_handle *other);
+int32_t defnulk_raw_port(struct defnulk_handle *handle, struct defnulk_handle *other, size_t *device);
+int32_t defnulk_raw_close(struct defnulk_handle *handle);
+int32_t defnulk_raw_ioctl(struct defnulk_handle *handle, uint16_t file, uint32_t number, const uint8_t *bytes,
+                          size_t len, uint8_t *room, size_t room_len, size_t *written);
+int32_t defnulk_raw_user_map(struct defnulk_handle *handle, uint16_t user, uint64_t va, struct defnulk_outcome *out);
+int32_t defnulk_raw_user_unmap(struct defnulk_handle *handle, uint16_t user, uint64_t va, struct defnulk_outcome *out);
+int32_t defnulk_raw_user_write(struct defnulk_handle *handle, uint16_t user, uint64_t va, const uint8_t *bytes,
+                               size_t len, struct defnulk_outcome *out);
+int32_t defnulk_raw_user_read(struct defnulk_handle *handle, uint16_t user, uint64_t va, uint8_t *buffer, size_t len,
+                              struct defnulk_outcome *out);
+int32_t defnulk_raw_bind(struct defnulk_handle *handle, uint16_t file, uint16_t device, struct defnulk_outcome *out);
+int32_t defnulk_raw_unbind(struct defnulk_handle *handle, uint16_t file, uint32_t id, struct defnulk_outcome *out);
+int32_t defnulk_raw_close_file(struct defnulk_handle *handle, uint16_t file, struct defnulk_outcome *out);
+int32_t defnulk_raw_access_create(struct defnulk_handle *handle, uint16_t file, struct defnulk_outcome *out);
+int32_t defnulk_raw_access_attach(struct defnulk_handle *handle, uint16_t file, uint32_t access, uint32_t ioas,
+                                  struct defnulk_outcome *out);
+int32_t defnulk_raw_access_detach(struct defnulk_handle *handle, uint16_t file, uint32_t access,
+                                  struct defnulk_outcome *out);
+int32_t defnulk_raw_access_pin(struct defnulk_handle *handle, uint16_t file, uint32_t access, uint64_t iova,
+                               uint64_t length, uint8_t write, struct defnulk_outcome *out);
+int32_t defnulk_raw_access_unpin(struct defnulk_handle *handle, uint16_t file, uint32_t access, uint64_t iova,
+                                 uint64_t length, uint8_t write, struct defnulk_outcome *out);
+int32_t defnulk_raw_access_write(struct defnulk_handle *handle, uint16_t file, uint32_t access, uint64_t iova,
+                                 const uint8_t *bytes, size_t len, struct defnulk_outcome *out);
+int32_t defnulk_raw_access_read(struct defnulk_handle *handle, uint16_t file, uint32_t access, uint64_t iova,
+                                uint8_t *buffer, size_t len, struct defnulk_outcome *out);
+int32_t defnulk_raw_held(struct defnulk_handle *handle, uint16_t user, struct defnulk_outcome *out);
+int32_t defnulk_raw_free_frames(struct defnulk_handle *handle, struct defnulk_outcome *out);
+int32_t defnulk_raw_port_read(struct defnulk_handle *handle, uint64_t iova, uint8_t *buffer, size_t len,
+                              struct defnulk_outcome *out);
+int32_t defnulk_raw_port_write(struct defnulk_handle *handle, uint64_t iova, const uint8_t *bytes, size_t len,
+                               struct defnulk_outcome *out);
+int32_t defnulk_raw_port_flush(struct defnulk_handle *handle, struct defnulk_outcome *out);
+int32_t defnulk_raw_port_attach(struct defnulk_handle *handle, uint32_t pt_id, struct defnulk_outcome *out);
+int32_t defnulk_raw_port_detach(struct defnulk_handle *handle, struct defnulk_outcome *out);
+
+/* ---- What the calls below are made of */
+
+/* Stands for an array of no bytes, whose pointer is null. */
+static const uint8_t defnulk_no_bytes[1] = { 0 };
+
+/* Whether an array has so many items of a size: it isn't null, or has none, and isn't too long. */
+static inline int defnulk_is_array(const void *at, size_t count, size_t size) {
+    return count <= (size_t)PTRDIFF_MAX / size && (at != NULL || count == 0);
+}
+
+/* Whether two spans of bytes have none in common. */
+static inline int defnulk_apart(const void *a, size_t a_len, const void *b, size_t b_len) {
+    uintptr_t x = (uintptr_t)a, y = (uintptr_t)b;
+    return a_len == 0 || b_len == 0 || (x < y ? y - x >= a_len : x - y >= b_len);
+}
+
+/* Whether a handle and a place for a result are there, and apart. */
+static inline int defnulk_has_room(const struct defnulk_handle *handle, const void *out, size_t out_len) {
+    return handle != NULL && out != NULL && defnulk_apart(handle, sizeof *handle, out, out_len);
+}
+
+static inline const uint8_t *defnulk_bytes(const void *at) {
+    return at != NULL ? (const uint8_t *)at : defnulk_no_bytes;
+}
+
+/* Tests a handle, an array of bytes and a place for the outcome: 0, -EFAULT for a null, -EINVAL for what is too long or
+   overlaps. The outcome tells nothing then. */
+static inline int32_t defnulk_test(const struct defnulk_handle *handle, const void *array, size_t len,
+                                   struct defnulk_outcome *out) {
+    static const struct defnulk_outcome nothing = { 0, 0, 0, 0, 0 };
+    if (out == NULL)
+        return -EFAULT;
+    if (!defnulk_is_array(array, len, 1) && array != NULL)
+        return -EINVAL;
+    if (!defnulk_apart(out, sizeof *out, array, len) || !defnulk_apart(out, sizeof *out, handle, sizeof *handle)
+        || !defnulk_apart(handle, sizeof *handle, array, len))
+        return -EINVAL;
+    *out = nothing;
+    return handle == NULL || (array == NULL && len > 0) ? -EFAULT : 0;
+}
+
+/* ---- Opening and closing */
+
+/* Opens a server for a handle that is closed. The handle is then its first caller's: it has one of the server's
+   passes, all others to give, and the right to each device's port. -EINVAL: a number is outside its limits. -EBUSY:
+   the handle is open. -ENOMEM. With each the handle stays as it was. */
+static inline int32_t defnulk_open(const struct defnulk_config *config, struct defnulk_handle *handle) {
+    static const struct defnulk_device none = { 0, 39, 0 };
+    if (config == NULL || handle == NULL || config->users == NULL || config->files == NULL
+        || (config->devices == NULL && config->device_count > 0))
+        return -EFAULT;
+    if (!defnulk_is_array(config->users, config->user_count, sizeof *config->users)
+        || !defnulk_is_array(config->files, config->file_count, sizeof *config->files)
+        || !defnulk_is_array(config->devices, config->device_count, sizeof *config->devices)
+        || !defnulk_apart(handle, sizeof *handle, config->users, config->user_count * sizeof *config->users)
+        || !defnulk_apart(handle, sizeof *handle, config->files, config->file_count * sizeof *config->files)
+        || !defnulk_apart(handle, sizeof *handle, config->devices, config->device_count * sizeof *config->devices))
+        return -EINVAL;
+    return defnulk_raw_open(config->pool, config->users, config->user_count, config->files, config->file_count,
+                            config->devices != NULL ? config->devices : &none, config->device_count, config->passes,
+                            config->lanes, config->cache, handle);
+}
+
+/* Opens another handle, which is closed, for another caller of the same server, by a pass that this caller has to
+   give: that is the one by whose handle the server was opened. -EBADF: this is no caller's. -EBUSY: the other is
+   open. -ENFILE: it has no pass to give. -ENOMEM. With each both handles stay as they were. */
+static inline int32_t defnulk_share(struct defnulk_handle *handle, struct defnulk_handle *other) {
+    if (handle == NULL || other == NULL)
+        return -EFAULT;
+    if (!defnulk_has_room(handle, other, sizeof *other))
+        return -EINVAL;
+    return defnulk_raw_share(handle, other);
+}
+
+/* Opens another handle, which is closed, for the port of a device: of the last device that has none, so the first
+   such call is of the last device. Its number is written to `device`, and stays as it was with an error. -EBADF:
+   this is no caller's. -EBUSY: the other is open. -ENFILE: no device is left, or no pass. -ENOMEM. With each both
+   handles stay as they were. */
+static inline int32_t defnulk_port(struct defnulk_handle *handle, struct defnulk_handle *other, size_t *device) {
+    if (handle == NULL || other == NULL || device == NULL)
+        return -EFAULT;
+    if (!defnulk_has_room(handle, other, sizeof *other) || !defnulk_has_room(handle, device, sizeof *device)
+        || !defnulk_has_room(other, device, sizeof *device))
+        return -EINVAL;
+    return defnulk_raw_port(handle, other, device);
+}
+
+/* Closes a handle, of either kind, and frees what it had; the server with its last handle. Its pass, and a device's
+   port, don't come back: no handle gets them again. A closed handle stays closed. -EBADF: the handle is closed. */
+static inline int32_t defnulk_close(struct defnulk_handle *handle) {
+    if (handle == NULL)
+        return -EFAULT;
+    return defnulk_raw_close(handle);
+}
+
+/* ---- Calls of callers */
+
+/* Carries out a call of ioctl that the file makes with this number (0x3b80 to 0x3b89 of linux/iommufd.h) and these
+   bytes: the kernel's own structure, and behind it the array that the kernel reads by a pointer (struct
+   iommu_iova_range of IOAS_ALLOW_IOVAS). Pointers in the structure are ignored. What the kernel writes back, the
+   structure with its answer, and behind it the array of IOAS_IOVA_RANGES, stands at the front of `room`, and
+   `written` says how many bytes that is: at most 40, but for IOAS_IOVA_RANGES 32 and 16 for each range that it was
+   given a place for; what of it `room` has no place for isn't written. The rest of `room` stays. 0, or the errno
+   that the kernel's call has, DEFNULK_NOT_NOW, -EBADF, -ENOMEM (a refusal of the server, too: then a limit of pinned
+   pages or the pool is at its end); -EINVAL where the room has less than DEFNULK_LEAST_ROOM bytes. An UNMAP that has
+   to wait for a device is -EAGAIN, or -EDEADLK after many tries: it is called again once the device's port was
+   flushed. */
+static inline int32_t defnulk_ioctl(struct defnulk_handle *handle, uint16_t file, uint32_t number, const void *bytes,
+                                    size_t len, void *room, size_t room_len, size_t *written) {
+    if (handle == NULL || (bytes == NULL && len > 0) || room == NULL || written == NULL)
+        return -EFAULT;
+    if (!defnulk_is_array(bytes, len, 1) || !defnulk_is_array(room, room_len, 1)
+        || !defnulk_has_room(handle, written, sizeof *written) || !defnulk_apart(handle, sizeof *handle, bytes, len)
+        || !defnulk_apart(handle, sizeof *handle, room, room_len) || !defnulk_apart(bytes, len, room, room_len)
+        || !defnulk_apart(written, sizeof *written, bytes, len)
+        || !defnulk_apart(written, sizeof *written, room, room_len))
+        return -EINVAL;
+    return defnulk_raw_ioctl(handle, file, number, defnulk_bytes(bytes), len, (uint8_t *)room, room_len, written);
+}
+
+/* Gives a user a page at this user address, a multiple of 4096 below 2^48. The value is the number of its frame. */
+static inline int32_t defnulk_user_map(struct defnulk_handle *handle, uint16_t user, uint64_t va,
+                                       struct defnulk_outcome *out) {
+    int32_t fit = defnulk_test(handle, NULL, 0, out);
+    return fit != 0 ? fit : defnulk_raw_user_map(handle, user, va, out);
+}
+
+/* Takes the page at this user address out of a user's memory. A page that is pinned keeps its frame until it isn't. */
+static inline int32_t defnulk_user_unmap(struct defnulk_handle *handle, uint16_t user, uint64_t va,
+                                         struct defnulk_outcome *out) {
+    int32_t fit = defnulk_test(handle, NULL, 0, out);
+    return fit != 0 ? fit : defnulk_raw_user_unmap(handle, user, va, out);
+}
+
+/* A user writes 1 to 64 bytes of its own memory, in one page. Another length is -EINVAL, with no record. */
+static inline int32_t defnulk_user_write(struct defnulk_handle *handle, uint16_t user, uint64_t va, const void *bytes,
+                                         size_t len, struct defnulk_outcome *out) {
+    int32_t fit = defnulk_test(handle, bytes, len, out);
+    return fit != 0 ? fit : defnulk_raw_user_write(handle, user, va, defnulk_bytes(bytes), len, out);
+}
+
+/* A user reads 1 to 64 bytes of its own memory, in one page. It makes no record. The value is how many bytes were
+   read: `len`, or 0 with an error, which leaves the buffer as it was. */
+static inline int32_t defnulk_user_read(struct defnulk_handle *handle, uint16_t user, uint64_t va, void *buffer,
+                                        size_t len, struct defnulk_outcome *out) {
+    int32_t fit = defnulk_test(handle, buffer, len, out);
+    if (fit == 0 && buffer == NULL)
+        fit = -EFAULT;
+    return fit != 0 ? fit : defnulk_raw_user_read(handle, user, va, (uint8_t *)buffer, len, out);
+}
+
+/* Binds a device to a file. The value is the id of its object in the file. */
+static inline int32_t defnulk_bind(struct defnulk_handle *handle, uint16_t file, uint16_t device,
+                                   struct defnulk_outcome *out) {
+    int32_t fit = defnulk_test(handle, NULL, 0, out);
+    return fit != 0 ? fit : defnulk_raw_bind(handle, file, device, out);
+}
+
+/* Takes the device of this id away from its file. */
+static inline int32_t defnulk_unbind(struct defnulk_handle *handle, uint16_t file, uint32_t id,
+                                     struct defnulk_outcome *out) {
+    int32_t fit = defnulk_test(handle, NULL, 0, out);
+    return fit != 0 ? fit : defnulk_raw_unbind(handle, file, id, out);
+}
+
+/* Closes a file of the server: its objects go. -EBUSY while a device is bound to it, or an access object holds a
+   pin. */
+static inline int32_t defnulk_close_file(struct defnulk_handle *handle, uint16_t file, struct defnulk_outcome *out) {
+    int32_t fit = defnulk_test(handle, NULL, 0, out);
+    return fit != 0 ? fit : defnulk_raw_close_file(handle, file, out);
+}
+
+/* How many pinned pages a user has: the value. It makes no record. */
+static inline int32_t defnulk_held(struct defnulk_handle *handle, uint16_t user, struct defnulk_outcome *out) {
+    int32_t fit = defnulk_test(handle, NULL, 0, out);
+    return fit != 0 ? fit : defnulk_raw_held(handle, user, out);
+}
+
+/* How many frames of the pool are free: the value. It makes no record. */
+static inline int32_t defnulk_free_frames(struct defnulk_handle *handle, struct defnulk_outcome *out) {
+    int32_t fit = defnulk_test(handle, NULL, 0, out);
+    return fit != 0 ? fit : defnulk_raw_free_frames(handle, out);
+}
+
+/* ---- Access objects, by a caller's handle: pages that a driver pins, reads and writes */
+
+/* Makes an access object in the file. The value is its id. */
+static inline int32_t defnulk_access_create(struct defnulk_handle *handle, uint16_t file,
+                                            struct defnulk_outcome *out) {
+    int32_t fit = defnulk_test(handle, NULL, 0, out);
+    return fit != 0 ? fit : defnulk_raw_access_create(handle, file, out);
+}
+
+/* Attaches it to the address space of this id. */
+static inline int32_t defnulk_access_attach(struct defnulk_handle *handle, uint16_t file, uint32_t access,
+                                            uint32_t ioas, struct defnulk_outcome *out) {
+    int32_t fit = defnulk_test(handle, NULL, 0, out);
+    return fit != 0 ? fit : defnulk_raw_access_attach(handle, file, access, ioas, out);
+}
+
+/* Ends its attachment. -EBUSY while it holds a pin. */
+static inline int32_t defnulk_access_detach(struct defnulk_handle *handle, uint16_t file, uint32_t access,
+                                            struct defnulk_outcome *out) {
+    int32_t fit = defnulk_test(handle, NULL, 0, out);
+    return fit != 0 ? fit : defnulk_raw_access_detach(handle, file, access, out);
+}
+
+/* Pins the pages of its address space from `iova` on, `length` bytes, both multiples of 4096; for writes too, where
+   `write` isn't 0. */
+static inline int32_t defnulk_access_pin(struct defnulk_handle *handle, uint16_t file, uint32_t access, uint64_t iova,
+                                         uint64_t length, uint8_t write, struct defnulk_outcome *out) {
+    int32_t fit = defnulk_test(handle, NULL, 0, out);
+    return fit != 0 ? fit : defnulk_raw_access_pin(handle, file, access, iova, length, write, out);
+}
+
+/* Takes one of its pins of just these pages away. */
+static inline int32_t defnulk_access_unpin(struct defnulk_handle *handle, uint16_t file, uint32_t access,
+                                           uint64_t iova, uint64_t length, uint8_t write, struct defnulk_outcome *out) {
+    int32_t fit = defnulk_test(handle, NULL, 0, out);
+    return fit != 0 ? fit : defnulk_raw_access_unpin(handle, file, access, iova, length, write, out);
+}
+
+/* Writes 1 to 64 bytes at an address that one of its pins for writes covers. Another length is -EINVAL, with no
+   record. */
+static inline int32_t defnulk_access_write(struct defnulk_handle *handle, uint16_t file, uint32_t access, uint64_t iova,
+                                           const void *bytes, size_t len, struct defnulk_outcome *out) {
+    int32_t fit = defnulk_test(handle, bytes, len, out);
+    return fit != 0 ? fit : defnulk_raw_access_write(handle, file, access, iova, defnulk_bytes(bytes), len, out);
+}
+
+/* Reads 1 to 64 bytes at an address that one of its pins covers; as defnulk_user_read does. */
+static inline int32_t defnulk_access_read(struct defnulk_handle *handle, uint16_t file, uint32_t access, uint64_t iova,
+                                          void *buffer, size_t len, struct defnulk_outcome *out) {
+    int32_t fit = defnulk_test(handle, buffer, len, out);
+    if (fit == 0 && buffer == NULL)
+        fit = -EFAULT;
+    return fit != 0 ? fit : defnulk_raw_access_read(handle, file, access, iova, (uint8_t *)buffer, len, out);
+}
+
+/* ---- Calls of a device's port */
+
+/* The device reads bytes from this address on, in pieces that are cut at pages and at 64 bytes. The value is how
+   many were read; these stand in the buffer, and its rest stays. With DEFNULK_NOT_NOW the call is made again for the
+   rest. -EFAULT with outcome.fault: the IOMMU denied the next piece. It makes no record. A page that passed the port
+   keeps: later pieces in it pass until the port is flushed, attached or detached, and an UNMAP of the page waits for
+   that. */
+static inline int32_t defnulk_port_read(struct defnulk_handle *handle, uint64_t iova, void *buffer, size_t len,
+                                        struct defnulk_outcome *out) {
+    int32_t fit = defnulk_test(handle, buffer, len, out);
+    if (fit == 0 && buffer == NULL)
+        fit = -EFAULT;
+    return fit != 0 ? fit : defnulk_raw_port_read(handle, iova, (uint8_t *)buffer, len, out);
+}
+
+/* The device writes these bytes, in such pieces, each by one record. The value is how many were written, and `at` the
+   place of the last record. Results are as of defnulk_port_read. */
+static inline int32_t defnulk_port_write(struct defnulk_handle *handle, uint64_t iova, const void *bytes, size_t len,
+                                         struct defnulk_outcome *out) {
+    int32_t fit = defnulk_test(handle, bytes, len, out);
+    return fit != 0 ? fit : defnulk_raw_port_write(handle, iova, defnulk_bytes(bytes), len, out);
+}
+
+/* The device has forgotten what it had cached, and so does the port, also where the call isn't served now: what an
+   UNMAP waits for on its account is done. */
+static inline int32_t defnulk_port_flush(struct defnulk_handle *handle, struct defnulk_outcome *out) {
+    int32_t fit = defnulk_test(handle, NULL, 0, out);
+    return fit != 0 ? fit : defnulk_raw_port_flush(handle, out);
+}
+
+/* Attaches the device to the address space or the hardware page table of this id, in the file that it is bound to. The
+   value is the id of the page table used. The port forgets all pages. */
+static inline int32_t defnulk_port_attach(struct defnulk_handle *handle, uint32_t pt_id, struct defnulk_outcome *out) {
+    int32_t fit = defnulk_test(handle, NULL, 0, out);
+    return fit != 0 ? fit : defnulk_raw_port_attach(handle, pt_id, out);
+}
+
+/* Ends the device's attachment. The port forgets all pages. */
+static inline int32_t defnulk_port_detach(struct defnulk_handle *handle, struct defnulk_outcome *out) {
+    int32_t fit = defnulk_test(handle, NULL, 0, out);
+    return fit != 0 ? fit : defnulk_raw_port_detach(handle, out);
+}
+
+#ifdef __cplusplus
+}
+#endif
+
+#endif
