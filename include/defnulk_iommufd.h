@@ -5,20 +5,24 @@
  * a caller's, or the port of a device. A handle has a share of the server and a pass. All calls of all handles make
  * one history of records: a call that changes something makes one, or none.
  *
- * RESULTS. Each call answers an int32_t: 0, or the negative number of an errno (-EINVAL), or DEFNULK_NOT_NOW:
- * another call is on the way, this one did nothing (but for the bytes that a port's read or write says have passed),
- * and it has to be made again. No call waits or takes a lock. What else a call tells stands in a struct
- * defnulk_outcome. Where outcome.cause and outcome.fault are 0, these errnos are the library's own, and the server is
- * as it was:
+ * RESULTS. Each call answers an int32_t: 0, or the negative number of an errno (-EINVAL), or DEFNULK_NOT_NOW: it can't
+ * be served now, as where another call is on the way; it did nothing, and has to be made again. No call waits or takes
+ * a lock. What else a call tells stands in a struct defnulk_outcome. Where outcome.cause and outcome.fault are 0, these
+ * errnos are the library's own, and the call did nothing:
  *
  *   -EBADF    the handle is closed, or of the other kind (a port's where a caller's is asked for, or a caller's)
- *   -ENOMEM   there was no memory, and no record was made
+ *   -ENOMEM   there was no memory
  *   -EFAULT   a pointer is null
- *   -EINVAL   an array is too long, or arrays, handles or places for results overlap
+ *   -EINVAL   an array is too long, or arrays, handles or places for results overlap; or what a call says of it
+ *   -EBUSY, -ENFILE   as the calls say that open handles
  *
- * Every other errno is the server's: a refusal, with the number of its cause (docs/SCRIPT.md) in outcome.cause, which
- * changed nothing, and is a record but for a question; or a denied access, -EFAULT with the reason in outcome.fault.
- * For defnulk_ioctl, which has no outcome, the errno is what the kernel's call answers.
+ * A port's read or write is served in pieces, and the outcome's value says how many bytes have passed before any of
+ * these: with DEFNULK_NOT_NOW it has to be made again for the rest alone.
+ *
+ * Every other errno is the server's: a refusal, with the number of its cause in outcome.cause (those of `Cause` in
+ * crates/iofd_words/src/refusal.rt), which changed nothing, and is a record but for a question; or a denied access,
+ * -EFAULT with the reason in outcome.fault. For defnulk_ioctl, which has no outcome, the errno is what the kernel's call
+ * answers.
  *
  * HANDLES. A handle begins as DEFNULK_CLOSED, and is from then on only what these calls made of it: its bytes are
  * never copied, compared or written by anybody else. (It may be moved: the old place is then DEFNULK_CLOSED again.)
@@ -45,7 +49,7 @@
 extern "C" {
 #endif
 
-/* The call can't be served now, and did nothing: make it again. No errno has this number. */
+/* The call can't be served now: make it again, a port's read or write for the rest. No errno has this number. */
 #define DEFNULK_NOT_NOW (-4096)
 
 /* The least room for what an ioctl writes back, in bytes. */
@@ -58,7 +62,8 @@ struct defnulk_handle {
 
 #define DEFNULK_CLOSED { 0 }
 
-/* What a call tells beside its result. Each call that takes one writes it, unless it is null or overlaps another. */
+/* What a call tells beside its result. Each call that takes one writes it, unless a null pointer, a length or an overlap
+   is refused before: then it stays as it was. */
 struct defnulk_outcome {
     uint64_t at;    /* the place of the last record that it made, counted from 0, where made is 1 */
     uint64_t value; /* the number that it answers, as each call says; or 0 */
@@ -155,7 +160,7 @@ static inline const uint8_t *defnulk_bytes(const void *at) {
 }
 
 /* Tests a handle, an array of bytes and a place for the outcome: 0, -EFAULT for a null, -EINVAL for what is too long or
-   overlaps. The outcome tells nothing then. */
+   overlaps. The outcome stays as it was then. */
 static inline int32_t defnulk_test(const struct defnulk_handle *handle, const void *array, size_t len,
                                    struct defnulk_outcome *out) {
     static const struct defnulk_outcome nothing = { 0, 0, 0, 0, 0 };
@@ -294,8 +299,7 @@ static inline int32_t defnulk_unbind(struct defnulk_handle *handle, uint16_t fil
     return fit != 0 ? fit : defnulk_raw_unbind(handle, file, id, out);
 }
 
-/* Closes a file of the server: its objects go. -EBUSY while a device is bound to it, or an access object holds a
-   pin. */
+/* Closes a file of the server: its objects go. -EBUSY while a device is bound to it, or it has an access object. */
 static inline int32_t defnulk_close_file(struct defnulk_handle *handle, uint16_t file, struct defnulk_outcome *out) {
     int32_t fit = defnulk_test(handle, NULL, 0, out);
     return fit != 0 ? fit : defnulk_raw_close_file(handle, file, out);
@@ -373,8 +377,8 @@ static inline int32_t defnulk_access_read(struct defnulk_handle *handle, uint16_
 /* The device reads bytes from this address on, in pieces that are cut at pages and at 64 bytes. The value is how
    many were read; these stand in the buffer, and its rest stays. With DEFNULK_NOT_NOW the call is made again for the
    rest. -EFAULT with outcome.fault: the IOMMU denied the next piece. It makes no record. A page that passed the port
-   keeps: later pieces in it pass until the port is flushed, attached or detached, and an UNMAP of the page waits for
-   that. */
+   may keep, with its rights: accesses that it has the right to then pass there until the port is flushed, attached or
+   detached, and an UNMAP of the page waits for that. */
 static inline int32_t defnulk_port_read(struct defnulk_handle *handle, uint64_t iova, void *buffer, size_t len,
                                         struct defnulk_outcome *out) {
     int32_t fit = defnulk_test(handle, buffer, len, out);
