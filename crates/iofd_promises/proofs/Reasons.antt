@@ -29,7 +29,7 @@ use Rattle.iofd_words.specs.declared.rows.Attachment.{Attachment}
 use Rattle.iofd_words.specs.declared.rows.Phase.{Phase}
 use Rattle.iofd_words.specs.declared.rows.Phase.TheVariants.{Live, Leaving}
 use Rattle.iofd_words.specs.declared.width.Width.{Width}
-use Rattle.iofd_words.specs.declared.width.Width.TheVariants.{Bits39, Bits48}
+use Rattle.iofd_words.specs.declared.width.Width.TheVariants.{Bits39, Bits48, Bits57}
 use Rattle.iofd_rows.proofs.Each.{IsIn, in_found}
 use Rattle.iofd_rows.proofs.Unusable.{each_not}
 use Rattle.iofd_runs.proofs.OwnIds.{any_found}
@@ -56,6 +56,7 @@ known_set w device d (n, number, is) =
 pub bits_end : (width : Width) → 2 ^ bits_of width ≡ end_of width
 bits_end Bits39 = refl
 bits_end Bits48 = refl
+bits_end Bits57 = refl
 
 -- ---- the reasons of an attached device
 

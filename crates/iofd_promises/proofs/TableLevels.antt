@@ -25,7 +25,7 @@ use Rattle.iofd_words.specs.declared.rows.ObjectKind.{ObjectKind}
 use Rattle.iofd_words.specs.declared.rows.ObjectKind.TheVariants as kind
 use Rattle.iofd_words.specs.declared.rows.TableFrame.{TableFrame}
 use Rattle.iofd_words.specs.declared.width.Width.{Width}
-use Rattle.iofd_words.specs.declared.width.Width.TheVariants.{Bits39, Bits48}
+use Rattle.iofd_words.specs.declared.width.Width.TheVariants.{Bits39, Bits48, Bits57}
 use Rattle.iofd_rows.specs.Ids.{have_own_ids}
 use Rattle.iofd_rows.proofs.Each.{IsIn, in_filter, in_map, of_each}
 use Rattle.iofd_rows.proofs.Named.{kind_only, object_of_kind}
@@ -70,6 +70,7 @@ level_from (suc n) page p (inr later) = let (low, high) = level_from n page p la
 levels_some : (width : Width) → 1 ≤ levels_of width
 levels_some Bits39 = omega arith
 levels_some Bits48 = omega arith
+levels_some Bits57 = omega arith
 
 level_of : (width : Width) (pages : List ℕ) (p : TablePlace) → IsIn (places_of width pages) p
     → IsLevel p.level (levels_of width)
@@ -182,6 +183,7 @@ level_sound settings records run = run_keeps_tables LevelSound keeps_levels 0 (o
 deepest_is : (width : Width) → levels_of width ≡ deepest width
 deepest_is Bits39 = refl
 deepest_is Bits48 = refl
+deepest_is Bits57 = refl
 
 pub has_place : {A : Type 0} (settings : Settings) (records : List (Record A)) (t : TableFrame) → IsRun settings records
     → IsIn (world_of settings records).table_frames t → HasPlace (world_of settings records) t

@@ -10,7 +10,7 @@ use Rattle.iofd_words.specs.declared.rows.Pin.{Pin}
 use Rattle.iofd_words.specs.declared.rows.TableFrame.{TableFrame}
 use Rattle.iofd_words.specs.declared.rows.UserPage.{UserPage}
 use Rattle.iofd_words.specs.declared.width.Width.{Width}
-use Rattle.iofd_words.specs.declared.width.Width.TheVariants.{Bits39, Bits48}
+use Rattle.iofd_words.specs.declared.width.Width.TheVariants.{Bits39, Bits48, Bits57}
 
 -- the pin's frame is that of page va / 4096 + index in the memory of the user of the pin's memory object
 pub record IsUsersPage (w : World) (pin : Pin) : Type 0 where
@@ -34,6 +34,7 @@ pub record IsNobodys (w : World) (frame : FrameNo) : Type 0 where
 abbrev pub deepest : Width → ℕ
 deepest Bits39 = 3
 deepest Bits48 = 4
+deepest Bits57 = 5
 
 -- the table is of a page table that is there, and of a level that tables of its width have
 pub record HasPlace (w : World) (table : TableFrame) : Type 0 where

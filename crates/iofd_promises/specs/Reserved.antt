@@ -4,12 +4,13 @@ use Rattle.iofd_words.specs.Bounds.{Bounds}
 use Rattle.iofd_words.specs.Settings.{DeviceSettings}
 use Rattle.iofd_words.specs.declared.rows.Area.{Area}
 use Rattle.iofd_words.specs.declared.width.Width.{Width}
-use Rattle.iofd_words.specs.declared.width.Width.TheVariants.{Bits39, Bits48}
+use Rattle.iofd_words.specs.declared.width.Width.TheVariants.{Bits39, Bits48, Bits57}
 
 -- the first address that tables of the width don't translate
 abbrev pub end_of : Width → ℕ
 end_of Bits39 = 2 ^ 39
 end_of Bits48 = 2 ^ 48
+end_of Bits57 = 2 ^ 57
 
 -- no address of the area is one that the device keeps for itself: of its reserved spans, or of an x86 device's
 -- interrupts

@@ -19,12 +19,23 @@ use std::marker::Model;
 
 /// A device of a server: its source id, the width of its addresses, whether it has the interrupt range
 /// of x86, and its reserved spans.
-#[derive(Drop)]
 pub struct DeviceConfig<A: Allocator = Global> {
     source: SourceId,
     width: Width,
     x86: bool,
     reserved: SpanList<A>,
+}
+
+// Written out, so that it is proved here alone and not in each crate that drops one.
+impl<A: Allocator> Drop for DeviceConfig<A> {
+    fn drop(self) {
+        let DeviceConfig {
+            source: _,
+            width: _,
+            x86: _,
+            reserved: _,
+        } = self;
+    }
 }
 
 impl<A: Allocator> Model for DeviceConfig<A> {
@@ -131,13 +142,25 @@ pub enum ConfigError {
 }
 
 /// What a server is opened with. Its values are within the limits.
-#[derive(Drop)]
 pub struct Config<A: Allocator = Global> {
     pool: u32,
     users: Vec<u64, A>,
     files: Vec<UserNo, A>,
     devices: Vec<DeviceConfig<A>, A>,
     passes: u16,
+}
+
+// Written out, so that it is proved here alone and not in each crate that drops one.
+impl<A: Allocator> Drop for Config<A> {
+    fn drop(self) {
+        let Config {
+            pool: _,
+            users: _,
+            files: _,
+            devices: _,
+            passes: _,
+        } = self;
+    }
 }
 
 impl<A: Allocator> Model for Config<A> {

@@ -9,9 +9,15 @@ use std::alloc::{Allocator, Global};
 use std::marker::Model;
 
 /// Frames, in the order in which they were taken or given back.
-#[derive(Drop)]
 pub struct FrameList<A: Allocator = Global> {
     frames: Vec<FrameNo, A>,
+}
+
+// Written out, so that it is proved here alone and not in each crate that drops one.
+impl<A: Allocator> Drop for FrameList<A> {
+    fn drop(self) {
+        let FrameList { frames: _ } = self;
+    }
 }
 
 impl<A: Allocator> Model for FrameList<A> {
@@ -42,14 +48,21 @@ impl<A: Allocator> FrameList<A> {
     pub fn into_vec(self) -> Vec<FrameNo, A>
         ensures { result.items ≡ self }
     {
-        self.frames
+        let FrameList { frames } = self;
+        frames
     }
 }
 
 /// Spans of addresses, in the order given.
-#[derive(Drop)]
 pub struct SpanList<A: Allocator = Global> {
     spans: Vec<Span, A>,
+}
+
+// Written out, so that it is proved here alone and not in each crate that drops one.
+impl<A: Allocator> Drop for SpanList<A> {
+    fn drop(self) {
+        let SpanList { spans: _ } = self;
+    }
 }
 
 impl<A: Allocator> Model for SpanList<A> {
@@ -90,7 +103,8 @@ impl<A: Allocator> SpanList<A> {
     pub fn into_vec(self) -> Vec<Span, A>
         ensures { result.items ≡ self }
     {
-        self.spans
+        let SpanList { spans } = self;
+        spans
     }
 }
 

@@ -26,9 +26,15 @@ impl Model for IovaRange {
 }
 
 /// Ranges of addresses, in the order given.
-#[derive(Drop)]
 pub struct RangeList<A: Allocator = Global> {
     ranges: Vec<IovaRange, A>,
+}
+
+// Written out, so that it is proved here alone and not in each crate that drops one.
+impl<A: Allocator> Drop for RangeList<A> {
+    fn drop(self) {
+        let RangeList { ranges: _ } = self;
+    }
 }
 
 impl<A: Allocator> Model for RangeList<A> {
@@ -69,6 +75,7 @@ impl<A: Allocator> RangeList<A> {
     pub fn into_vec(self) -> Vec<IovaRange, A>
         ensures { result.items ≡ self }
     {
-        self.ranges
+        let RangeList { ranges } = self;
+        ranges
     }
 }

@@ -10,6 +10,8 @@ pub enum Width {
     Bits39,
     /// 48 bits, four levels of tables.
     Bits48,
+    /// 57 bits, five levels of tables.
+    Bits57,
 }
 
 impl Width {
@@ -20,6 +22,7 @@ impl Width {
         match self {
             Width::Bits39 => 39,
             Width::Bits48 => 48,
+            Width::Bits57 => 57,
         }
     }
 
@@ -30,6 +33,7 @@ impl Width {
         match self {
             Width::Bits39 => 0x80_0000_0000,
             Width::Bits48 => 0x1_0000_0000_0000,
+            Width::Bits57 => 0x200_0000_0000_0000,
         }
     }
 }

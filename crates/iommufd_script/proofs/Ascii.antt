@@ -12,7 +12,7 @@ use Rattle.std.specs.List.{list_all, slice_split, join_with_byte}
 use Rattle.std.specs.Option.{option_and_then}
 use Rattle.std.specs.Str.{bytes_eq}
 use Rattle.std.specs.Str.Parse.{digits_value}
-use Rattle.iofd_words.specs.declared.width.Width.TheVariants.{Bits39, Bits48}
+use Rattle.iofd_words.specs.declared.width.Width.TheVariants.{Bits39, Bits48, Bits57}
 use Rattle.iofd_words.specs.FirstTrue.{first_true}
 use Rattle.iofd_words.specs.Settings.{is_between}
 use Rattle.iommufd_script.specs.Digits.{are_digits, number_of, decimal, hexadecimal, is_lower_digit, bytes_of, pairs}
@@ -128,9 +128,12 @@ bytes_plain text e = where_either (bytes_eq text (codes "-")) [] _ (same_plain t
 
 width_plain : (text : List ℕ) → is_some (width_of text) ≡ true → is_plain text ≡ true
 width_plain text e =
-    let is_48 = bytes_eq text (codes "48") in
-    where_either (bytes_eq text (codes "39")) Bits39 (cond is_48 (Some Bits48) None) (same_plain text (codes "39") refl)
-    (λ some. let kept = where_kept is_48 (Some Bits48) some in same_plain text (codes "48") refl kept.0) e
+    let is_57 = bytes_eq text (codes "57") in
+    where_either (bytes_eq text (codes "39")) Bits39
+    (cond (bytes_eq text (codes "48")) (Some Bits48) (cond is_57 (Some Bits57) None)) (same_plain text (codes "39") refl)
+    (where_either (bytes_eq text (codes "48")) Bits48 (cond is_57 (Some Bits57) None)
+    (same_plain text (codes "48") refl)
+    (λ some. let kept = where_kept is_57 (Some Bits57) some in same_plain text (codes "57") refl kept.0)) e
 
 purpose_plain : (text : List ℕ) → is_some (purpose_of text) ≡ true → is_plain text ≡ true
 purpose_plain text e =

@@ -9,7 +9,7 @@ use denote.Ref.{Bor}
 use Rattle.iofd_words.specs.Bounds.{Bounds}
 use Rattle.iofd_words.specs.Settings.{is_between}
 use Rattle.iofd_words.specs.declared.width.Width.{Width}
-use Rattle.iofd_words.specs.declared.width.Width.TheVariants.{Bits39, Bits48}
+use Rattle.iofd_words.specs.declared.width.Width.TheVariants.{Bits39, Bits48, Bits57}
 use Rattle.iommufd_script.specs.Digits.{decimal, hexadecimal, bytes_of}
 
 -- two spaces, or one at an end, have an empty field beside them, which is of no kind
@@ -30,7 +30,7 @@ pub data Kind : Type 0 where
   Length : Kind
   -- the id of a device: four hexadecimal digits
   Source : Kind
-  -- the width of a device's addresses: 39 or 48
+  -- the width of a device's addresses: 39, 48 or 57
   AddressWidth : Kind
   -- bytes in lower-case hexadecimal, `-` for none
   Bytes : Kind
@@ -60,7 +60,9 @@ ValueOf Spans = List Bounds
 -- the width that a field names
 abbrev pub width_of : List ℕ → Option Width
 width_of text =
-    if bytes_eq text (codes "39") then Some Bits39 else if bytes_eq text (codes "48") then Some Bits48 else None
+    if bytes_eq text (codes "39") then Some Bits39
+    else if bytes_eq text (codes "48") then Some Bits48
+    else if bytes_eq text (codes "57") then Some Bits57 else None
 
 -- whether a pin is for writes too
 abbrev pub purpose_of : List ℕ → Option Bool

@@ -222,6 +222,8 @@ fn width_of(field: &[u8]) -> Option<Width>
         Some(Width::Bits39)
     } else if field == b"48".as_slice() {
         Some(Width::Bits48)
+    } else if field == b"57".as_slice() {
+        Some(Width::Bits57)
     } else {
         None
     }

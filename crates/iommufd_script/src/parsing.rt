@@ -39,7 +39,7 @@ fn file(fields: Fields<'_>) -> Option<HeadLine<'_>>
     fields.end(HeadLine::File(UserNo(user)))
 }
 
-// `device <4 hex digits> <39 or 48> [x86] [<x>-<x> ..]`
+// `device <4 hex digits> <39, 48 or 57> [x86] [<x>-<x> ..]`
 fn device(fields: Fields<'_>) -> Option<HeadLine<'_>>
     ensures { result ≡ head_of head.Device fields.entry }
 {

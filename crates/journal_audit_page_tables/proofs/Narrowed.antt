@@ -29,7 +29,7 @@ use Rattle.iofd_words.specs.declared.rows.Object.{Object}
 use Rattle.iofd_words.specs.declared.rows.ObjectKind.{ObjectKind}
 use Rattle.iofd_words.specs.declared.rows.ObjectKind.TheVariants as kind
 use Rattle.iofd_words.specs.declared.width.Width.{Width}
-use Rattle.iofd_words.specs.declared.width.Width.TheVariants.{Bits39, Bits48}
+use Rattle.iofd_words.specs.declared.width.Width.TheVariants.{Bits39, Bits48, Bits57}
 use Rattle.journal_audit_page_tables.specs.Unusable.{Unusable, is_of_width, is_table, meets_unusable}
 use Rattle.journal_audit_page_tables.specs.Unusable.{with_attached, with_width}
 use Rattle.journal_audit_page_tables.specs.Widths.{width_set}
@@ -59,39 +59,55 @@ module _ (settings : Settings) (objects : List Object) (attachments : List Attac
   ends_by_width : (k : ObjectKind) (named : Bool)
       → ((named && is_hwpt_over ioas k) && meets_some (beyond_table k) range)
       ≡ ((((named && is_hwpt_over ioas k) && is_of_width Bits39 k) && meets (beyond Bits39) range)
-      || (((named && is_hwpt_over ioas k) && is_of_width Bits48 k) && meets (beyond Bits48) range))
+      || ((((named && is_hwpt_over ioas k) && is_of_width Bits48 k) && meets (beyond Bits48) range)
+      || (((named && is_hwpt_over ioas k) && is_of_width Bits57 k) && meets (beyond Bits57) range)))
   ends_by_width kind.Ioas true = refl
   ends_by_width kind.Ioas false = refl
   ends_by_width (kind.Hwpt over Bits39 automatic) named =
       narrow (named && eqb over.0 ioas.0) (meets (beyond Bits39) range) (meets (beyond Bits48) range)
+      (meets (beyond Bits57) range)
     where
-      narrow : (a m n : Bool) → (a && (m || false)) ≡ (((a && true) && m) || ((a && false) && n))
-      narrow true m n = refl
-      narrow false m n = refl
+      narrow : (a l m n : Bool) → (a && (l || false)) ≡ (((a && true) && l) || (((a && false) && m) || ((a && false) && n)))
+      narrow true l m n = refl
+      narrow false l m n = refl
   ends_by_width (kind.Hwpt over Bits48 automatic) named =
       wide (named && eqb over.0 ioas.0) (meets (beyond Bits39) range) (meets (beyond Bits48) range)
+      (meets (beyond Bits57) range)
     where
-      wide : (a m n : Bool) → (a && (n || false)) ≡ (((a && false) && m) || ((a && true) && n))
-      wide true m n = or_none n
-      wide false m n = refl
+      wide : (a l m n : Bool) → (a && (m || false)) ≡ (((a && false) && l) || (((a && true) && m) || ((a && false) && n)))
+      wide true l m n = refl
+      wide false l m n = refl
+  ends_by_width (kind.Hwpt over Bits57 automatic) named =
+      widest (named && eqb over.0 ioas.0) (meets (beyond Bits39) range) (meets (beyond Bits48) range)
+      (meets (beyond Bits57) range)
+    where
+      widest : (a l m n : Bool) → (a && (n || false)) ≡ (((a && false) && l) || (((a && false) && m) || ((a && true) && n)))
+      widest true l m n = or_none n
+      widest false l m n = refl
   ends_by_width (kind.Device device) true = refl
   ends_by_width (kind.Device device) false = refl
   ends_by_width (kind.Access attached) true = refl
   ends_by_width (kind.Access attached) false = refl
 
-  tables_end : list_any (ends_in file ioas range) objects
-      ≡ ((list_any (is_table file ioas Bits39) objects && meets (beyond Bits39) range)
-      || (list_any (is_table file ioas Bits48) objects && meets (beyond Bits48) range))
+  -- some object is a page table of this width over the address space, and the range is beyond what it translates
+  abbrev ends_at : Width → Object → Bool
+  ends_at width o = is_table file ioas width o && meets (beyond width) range
+
+  abbrev one_ends : Width → Bool
+  one_ends width = list_any (is_table file ioas width) objects && meets (beyond width) range
+
+  tables_end : list_any (ends_in file ioas range) objects ≡ (one_ends Bits39 || (one_ends Bits48 || one_ends Bits57))
   tables_end =
-      any_alike (ends_in file ioas range) (λ (o : Object). (is_table file ioas Bits39 o && meets (beyond Bits39) range)
-      || (is_table file ioas Bits48 o && meets (beyond Bits48) range)) objects
-      (λ o. ends_by_width o.kind (eqb o.file.0 file.0))
-      ∙ any_or (λ (o : Object). is_table file ioas Bits39 o && meets (beyond Bits39) range)
-      (λ (o : Object). is_table file ioas Bits48 o && meets (beyond Bits48) range) objects
-      ∙ ap (λ b. b || list_any (λ (o : Object). is_table file ioas Bits48 o && meets (beyond Bits48) range) objects)
+      any_alike (ends_in file ioas range) (λ (o : Object). ends_at Bits39 o || (ends_at Bits48 o || ends_at Bits57 o))
+      objects (λ o. ends_by_width o.kind (eqb o.file.0 file.0))
+      ∙ any_or (ends_at Bits39) (λ (o : Object). ends_at Bits48 o || ends_at Bits57 o) objects
+      ∙ ap (λ b. list_any (ends_at Bits39) objects || b) (any_or (ends_at Bits48) (ends_at Bits57) objects)
+      ∙ ap (λ b. b || (list_any (ends_at Bits48) objects || list_any (ends_at Bits57) objects))
       (any_both (is_table file ioas Bits39) (meets (beyond Bits39) range) objects)
-      ∙ ap (λ b. (list_any (is_table file ioas Bits39) objects && meets (beyond Bits39) range) || b)
+      ∙ ap (λ b. one_ends Bits39 || (b || list_any (ends_at Bits57) objects))
       (any_both (is_table file ioas Bits48) (meets (beyond Bits48) range) objects)
+      ∙ ap (λ b. one_ends Bits39 || (one_ends Bits48 || b))
+      (any_both (is_table file ioas Bits57) (meets (beyond Bits57) range) objects)
 
   devices_keep : list_any (keeps_of settings objects file ioas range) attachments
       ≡ list_any (λ (d : DeviceNo). meets_some (reserved_of (device_of settings d)) range)
@@ -102,15 +118,15 @@ module _ (settings : Settings) (objects : List Object) (attachments : List Attac
       ∙ any-filter (λ (a : Attachment). meets_some (reserved_of (device_of settings a.device)) range)
       (is_attached_to objects file ioas) attachments)
 
-  pub unusable_is : (narrow wide : Bool) (devices : List DeviceNo)
+  pub unusable_is : (narrow wide widest : Bool) (devices : List DeviceNo)
       → narrow ≡ list_any (is_table file ioas Bits39) objects
       → wide ≡ list_any (is_table file ioas Bits48) objects
+      → widest ≡ list_any (is_table file ioas Bits57) objects
       → devices ≡ map (λ (a : Attachment). a.device) (filter (is_attached_to objects file ioas) attachments)
-      → meets_unusable settings (record { narrow = narrow; wide = wide; devices = devices }) range
+      → meets_unusable settings (record { narrow = narrow; wide = wide; widest = widest; devices = devices }) range
       ≡ meets_some (unusable settings objects attachments file ioas) range
-  unusable_is narrow wide devices n w d =
-      rw (n, w, d) (apart (list_any (is_table file ioas Bits39) objects && meets (beyond Bits39) range)
-      (list_any (is_table file ioas Bits48) objects && meets (beyond Bits48) range)
+  unusable_is narrow wide widest devices n w x d =
+      rw (n, w, x, d) (apart (one_ends Bits39) (one_ends Bits48) (one_ends Bits57)
       (list_any (λ (d : DeviceNo). meets_some (reserved_of (device_of settings d)) range)
       (map (λ (a : Attachment). a.device) (filter (is_attached_to objects file ioas) attachments)))
       ∙ ap (λ b. b || list_any (λ (d : DeviceNo). meets_some (reserved_of (device_of settings d)) range)
@@ -118,9 +134,10 @@ module _ (settings : Settings) (objects : List Object) (attachments : List Attac
       ∙ ap (λ b. list_any (ends_in file ioas range) objects || b) (sym devices_keep)
       ∙ sym (by_rows settings objects attachments file ioas range))
     where
-      apart : (a b c : Bool) → (a || (b || c)) ≡ ((a || b) || c)
-      apart true b c = refl
-      apart false b c = refl
+      apart : (a b c d : Bool) → (a || (b || (c || d))) ≡ ((a || (b || c)) || d)
+      apart true b c d = refl
+      apart false true c d = refl
+      apart false false c d = refl
 
 -- ---- with a page table, and a device, more
 
@@ -140,26 +157,42 @@ module _ (settings : Settings) (told : Unusable) (range : Bounds) where
       table w true false c = refl
       table true false a c = refl
       table false false a c = refl
+  meets_by_width Bits57 =
+      table told.widest (meets (beyond Bits57) range) (told.narrow && meets (beyond Bits39) range)
+      (told.wide && meets (beyond Bits48) range) _
+    where
+      table : (w m a b c : Bool) → (a || (b || ((true && m) || c))) ≡ (m || (a || (b || ((w && m) || c))))
+      table w true true b c = refl
+      table w false true b c = refl
+      table w true false true c = refl
+      table w false false true c = refl
+      table w true false false c = refl
+      table true false false false c = refl
+      table false false false false c = refl
 
   meets_by_device : (device : DeviceNo) → meets_unusable settings (with_attached device told) range
       ≡ (meets_some (reserved_of (device_of settings device)) range || meets_unusable settings told range)
   meets_by_device device =
-      ap (λ b. (told.narrow && meets (beyond Bits39) range) || ((told.wide && meets (beyond Bits48) range) || b))
+      ap (λ b. (told.narrow && meets (beyond Bits39) range)
+      || ((told.wide && meets (beyond Bits48) range) || ((told.widest && meets (beyond Bits57) range) || b)))
       (list_any-append (λ (d : DeviceNo). meets_some (reserved_of (device_of settings d)) range) told.devices
       (device ∷ []))
       ∙ table (told.narrow && meets (beyond Bits39) range) (told.wide && meets (beyond Bits48) range)
+      (told.widest && meets (beyond Bits57) range)
       (list_any (λ (d : DeviceNo). meets_some (reserved_of (device_of settings d)) range) told.devices)
       (meets_some (reserved_of (device_of settings device)) range)
     where
-      table : (a b c k : Bool) → (a || (b || (c || (k || false)))) ≡ (k || (a || (b || c)))
-      table true b c true = refl
-      table true b c false = refl
-      table false true c true = refl
-      table false true c false = refl
-      table false false true true = refl
-      table false false true false = refl
-      table false false false true = refl
-      table false false false false = refl
+      table : (a b c d k : Bool) → (a || (b || (c || (d || (k || false))))) ≡ (k || (a || (b || (c || d))))
+      table true b c d true = refl
+      table true b c d false = refl
+      table false true c d true = refl
+      table false true c d false = refl
+      table false false true d true = refl
+      table false false true d false = refl
+      table false false false true true = refl
+      table false false false true false = refl
+      table false false false false true = refl
+      table false false false false false = refl
 
 -- ---- all areas and allowed ranges
 

@@ -16,12 +16,13 @@ use Rattle.iofd_words.specs.declared.rows.Object.{Object}
 use Rattle.iofd_words.specs.declared.rows.ObjectKind.{ObjectKind}
 use Rattle.iofd_words.specs.declared.rows.ObjectKind.TheVariants as kind
 use Rattle.iofd_words.specs.declared.width.Width.{Width}
-use Rattle.iofd_words.specs.declared.width.Width.TheVariants.{Bits39, Bits48}
+use Rattle.iofd_words.specs.declared.width.Width.TheVariants.{Bits39, Bits48, Bits57}
 
--- whether a page table of 39 bits and one of 48 bits is there, and the devices that are attached
+-- whether a page table of 39 bits, one of 48 bits and one of 57 bits is there, and the devices that are attached
 pub record Unusable : Type 0 where
   pub narrow : Bool
   pub wide : Bool
+  pub widest : Bool
   pub devices : List DeviceNo
 
 -- the range has an address that a page table doesn't translate, or that a device keeps for itself
@@ -29,12 +30,14 @@ abbrev pub meets_unusable : Settings → Unusable → Bounds → Bool
 meets_unusable settings told range =
     (told.narrow && meets (beyond Bits39) range)
     || ((told.wide && meets (beyond Bits48) range)
-    || list_any (λ device. meets_some (reserved_of (device_of settings device)) range) told.devices)
+    || ((told.widest && meets (beyond Bits57) range)
+    || list_any (λ device. meets_some (reserved_of (device_of settings device)) range) told.devices))
 
 -- with a page table of this width more
 abbrev pub with_width : Width → Unusable → Unusable
 with_width Bits39 told = record told { narrow = true }
 with_width Bits48 told = record told { wide = true }
+with_width Bits57 told = record told { widest = true }
 
 abbrev pub with_attached : DeviceNo → Unusable → Unusable
 with_attached device told = record told { devices = told.devices ++ device ∷ [] }

@@ -109,12 +109,13 @@ fn devices_of<A: Allocator>(
     Ok(devices)
 }
 
-/// What an address space can't use, by what takes it: whether a page table of 39 bits and one of 48 bits is over it,
-/// and the devices that are attached to it.
+/// What an address space can't use, by what takes it: whether a page table of 39 bits, one of 48 bits and one of 57
+/// bits is over it, and the devices that are attached to it.
 #[derive(Drop)]
 pub struct Unusable<A: Allocator = Global> {
     narrow: bool,
     wide: bool,
+    widest: bool,
     devices: Vec<DeviceNo, A>,
 }
 
@@ -123,7 +124,12 @@ impl<A: Allocator> Model for Unusable<A> {
 
     ghost Value = { words.Unusable };
 
-    ghost view = { λ told. record { narrow = told.narrow; wide = told.wide; devices = told.devices.items } };
+    ghost view = { λ told. record {
+      narrow = told.narrow;
+      wide = told.wide;
+      widest = told.widest;
+      devices = told.devices.items;
+    } };
 }
 
 impl<A: Allocator> Unusable<A> {
@@ -141,6 +147,7 @@ impl<A: Allocator> Unusable<A> {
         Ok(Unusable {
             narrow: has_table(&world.objects, file, ioas, Width::Bits39),
             wide: has_table(&world.objects, file, ioas, Width::Bits48),
+            widest: has_table(&world.objects, file, ioas, Width::Bits57),
             devices,
         })
     }
@@ -152,6 +159,7 @@ impl<A: Allocator> Unusable<A> {
         match width {
             Width::Bits39 => self.narrow = true,
             Width::Bits48 => self.wide = true,
+            Width::Bits57 => self.widest = true,
         }
     }
 
@@ -169,6 +177,7 @@ impl<A: Allocator> Unusable<A> {
     {
         (self.narrow && is_beyond(Width::Bits39, range))
             || (self.wide && is_beyond(Width::Bits48, range))
+            || (self.widest && is_beyond(Width::Bits57, range))
             || is_kept_by_some(config, &self.devices, range)
     }
 }

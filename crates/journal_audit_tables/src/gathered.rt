@@ -82,7 +82,7 @@ impl<A: Allocator + Copy> Gathered<A> {
 
     /// The places of this level and below it through which the page goes.
     pub(crate) fn add_page(&mut self, level: u8, page: u64) -> Result<(), NoMemory>
-        requires most { level ≤ 4 }
+        requires most { level ≤ 5 }
         requires page { page < 2 ^ 52 }
         ensures { IfOk result (λ _. Adds self.old self.new (places_from level page)) }
     {
@@ -97,7 +97,7 @@ impl<A: Allocator + Copy> Gathered<A> {
 
     /// Those of so many pages from this one on.
     pub(crate) fn add_pages(&mut self, level: u8, first: u64, count: u64) -> Result<(), NoMemory>
-        requires most { level ≤ 4 }
+        requires most { level ≤ 5 }
         requires pages { first + count ≤ 2 ^ 52 }
         ensures { IfOk result (λ _. Adds self.old self.new
             (flat_map (places_from level) (range_with_len first count))) }
@@ -110,7 +110,7 @@ impl<A: Allocator + Copy> Gathered<A> {
 
     /// Those of the span, where they are asked for.
     fn add_span(&mut self, level: u8, span: Span, is_asked: bool) -> Result<(), NoMemory>
-        requires { level ≤ 4 }
+        requires { level ≤ 5 }
         ensures { IfOk result (λ _. Adds self.old self.new
             (if is_asked then flat_map (places_from level) (pages_in span) else [])) }
     {
@@ -129,7 +129,7 @@ impl<A: Allocator + Copy> Gathered<A> {
         file: FileNo,
         ioas: ObjId,
     ) -> Result<(), NoMemory>
-        requires { level ≤ 4 }
+        requires { level ≤ 5 }
         ensures { IfOk result (λ _. Adds self.old self.new
             (flat_map (places_from level) (live_pages (areas_of areas.now file ioas)))) }
     {

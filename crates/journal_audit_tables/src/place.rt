@@ -40,11 +40,12 @@ impl Model for Missing {
 pub fn levels_of(width: Width) -> u8
     ensures value { result ≡ levels_of width }
     ensures some { 1 ≤ result }
-    ensures few { result ≤ 4 }
+    ensures few { result ≤ 5 }
 {
     match width {
         Width::Bits39 => 3,
         Width::Bits48 => 4,
+        Width::Bits57 => 5,
     }
 }
 
@@ -52,7 +53,7 @@ pub fn levels_of(width: Width) -> u8
 #[tactic(auto, unfolding(iofd_words::specs::Levels::number_at))]
 pub fn first_address(level: u8, page: u64) -> u64
     requires some { 1 ≤ level }
-    requires most { level ≤ 4 }
+    requires most { level ≤ 5 }
     requires page { page < 2 ^ 52 }
     ensures { result ≡ first_address level page }
 {
@@ -60,7 +61,8 @@ pub fn first_address(level: u8, page: u64) -> u64
         1 => page / 512 * (512 * 4096),
         2 => page / 262_144 * (262_144 * 4096),
         3 => page / 134_217_728 * (134_217_728 * 4096),
-        _ => page / 68_719_476_736 * (68_719_476_736 * 4096),
+        4 => page / 68_719_476_736 * (68_719_476_736 * 4096),
+        _ => page / 35_184_372_088_832 * (35_184_372_088_832 * 4096),
     }
 }
 

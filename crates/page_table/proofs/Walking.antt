@@ -11,7 +11,7 @@ use Rattle.iofd_words.specs.Width.{bits_of}
 use Rattle.iofd_words.specs.declared.flags.Rights.{Rights}
 use Rattle.iofd_words.specs.declared.numbers.FrameNo.{FrameNo}
 use Rattle.iofd_words.specs.declared.width.Width.{Width}
-use Rattle.iofd_words.specs.declared.width.Width.TheVariants.{Bits39, Bits48}
+use Rattle.iofd_words.specs.declared.width.Width.TheVariants.{Bits39, Bits48, Bits57}
 use Rattle.frame_memory.specs.Pool.{FramePool}
 use Rattle.page_table.specs.declared.walk.Walk.{Walk}
 use Rattle.page_table.specs.declared.walk.Walk.TheVariants as walk
@@ -80,6 +80,7 @@ past_tables : (width : Width) (page : ℕ) → 2 ^ bits_of width / 4096 ≤ page
 unfolding number_at
 past_tables Bits39 page beyond = omega arith
 past_tables Bits48 page beyond = omega arith
+past_tables Bits57 page beyond = omega arith
 
 -- a page beyond the width isn't mapped
 pub none_beyond : (pool : FramePool) (table : TableRoot) (rows : List TableRow) (pages : List MappedPage) (page : ℕ)

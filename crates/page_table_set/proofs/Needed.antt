@@ -19,7 +19,7 @@ use Rattle.iofd_words.specs.declared.numbers.ObjId.{ObjId}
 use Rattle.iofd_words.specs.declared.rows.Object.{Object}
 use Rattle.iofd_words.specs.declared.rows.TableFrame.{TableFrame}
 use Rattle.iofd_words.specs.declared.width.Width.{Width}
-use Rattle.iofd_words.specs.declared.width.Width.TheVariants.{Bits39, Bits48}
+use Rattle.iofd_words.specs.declared.width.Width.TheVariants.{Bits39, Bits48, Bits57}
 use Rattle.frame_memory.specs.Pool.{FramePool}
 use Rattle.page_table_spans.proofs.Lacking.{lacking_same}
 use Rattle.page_table_spans.proofs.OnePage.{length_places, row_there}
@@ -48,7 +48,7 @@ fewer_lacking there (x ∷ xs) =
     by_test true one other = omega (arith, one)
     by_test false one other = omega (arith, other)
 
-places_counted : (n : ℕ) (pages : List ℕ) → n ≤ 3 → length (flat_map (places_from n) pages) ≤ 3 * length pages
+places_counted : (n : ℕ) (pages : List ℕ) → n ≤ 4 → length (flat_map (places_from n) pages) ≤ 4 * length pages
 places_counted n [] few = omega arith
 places_counted n (page ∷ pages) few =
     let rest = places_counted n pages few in
@@ -57,29 +57,31 @@ places_counted n (page ∷ pages) few =
     let one = length_places n page in
     omega (arith, rest, all, one, few)
 
-pages_few : (width : Width) (span : Bounds) → span.last < 2 ^ bits_of width → size_of span / 4096 ≤ 2 ^ 36
+pages_few : (width : Width) (span : Bounds) → span.last < 2 ^ bits_of width → size_of span / 4096 ≤ 2 ^ 45
 pages_few Bits39 span below = omega arith
 pages_few Bits48 span below = omega arith
+pages_few Bits57 span below = omega arith
 
-levels_few : (width : Width) → levels_of width - 1 ≤ 3
+levels_few : (width : Width) → levels_of width - 1 ≤ 4
 levels_few Bits39 = omega arith
 levels_few Bits48 = omega arith
+levels_few Bits57 = omega arith
 
--- each page lacks at most three
-pub lacked_thrice : (rows : List TableRow) (width : Width) (span : Bounds)
-    → length (spans.lacked rows (levels_of width) (pages_in span)) ≤ 3 * (size_of span / 4096)
-lacked_thrice rows width span =
+-- each page lacks at most four
+pub lacked_by_page : (rows : List TableRow) (width : Width) (span : Bounds)
+    → length (spans.lacked rows (levels_of width) (pages_in span)) ≤ 4 * (size_of span / 4096)
+lacked_by_page rows width span =
     let fewer = fewer_lacking (spans.has_row rows) (flat_map (places_from (levels_of width - 1)) (pages_in span)) in
     let places = places_counted (levels_of width - 1) (pages_in span) (levels_few width) in
     let pages = length-range_with_len (page_of span.first) (size_of span / 4096) in
     omega (arith, fewer, places, pages)
 
 pub lacked_few : (rows : List TableRow) (width : Width) (span : Bounds) → IsOfPages width span
-    → length (spans.lacked rows (levels_of width) (pages_in span)) ≤ 2 ^ 38
+    → length (spans.lacked rows (levels_of width) (pages_in span)) ≤ 2 ^ 47
 lacked_few rows width span of_pages =
-    let thrice = lacked_thrice rows width span in
+    let most = lacked_by_page rows width span in
     let few = pages_few width span of_pages.below in
-    omega (arith, thrice, few)
+    omega (arith, most, few)
 
 -- the root is there
 pub lacked_places : (pool : FramePool) (frames : List TableFrame) (leads : ℕ
@@ -192,7 +194,7 @@ module _ (pool : FramePool) (frames : List TableFrame) (leads : Object → ℕ
 
   pub its_few : HaveSpan file ioas span tables → (more : ℕ)
       → IfStands pool inside.table (λ rows pages. more ≡ length
-      (spans.lacked rows (levels_of inside.table.width) (pages_in span))) → more ≤ 2 ^ 38
+      (spans.lacked rows (levels_of inside.table.width) (pages_in span))) → more ≤ 2 ^ 47
   its_few have more counts =
       let table = its_table in
       let few = lacked_few table.rows inside.table.width span (its_span have) in

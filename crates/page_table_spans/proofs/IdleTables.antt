@@ -19,7 +19,7 @@ use Rattle.iofd_words.specs.Width.{bits_of}
 use Rattle.iofd_words.specs.declared.numbers.FrameNo.{FrameNo}
 use Rattle.iofd_words.specs.declared.rows.Area.{Area}
 use Rattle.iofd_words.specs.declared.width.Width.{Width}
-use Rattle.iofd_words.specs.declared.width.Width.TheVariants.{Bits39, Bits48}
+use Rattle.iofd_words.specs.declared.width.Width.TheVariants.{Bits39, Bits48, Bits57}
 use Rattle.frame_memory.specs.Pool.{FramePool}
 use Rattle.page_table_words.specs.Emptied.{IsEmpty, is_numbered, number_of}
 use Rattle.page_table_words.specs.Needed.{first_page, is_absent}
@@ -195,6 +195,7 @@ end_fits width level number few below =
     most : (w : Width) → 2 ^ (9 * levels_of w) ≤ 2 ^ 45
     most Bits39 = omega arith
     most Bits48 = omega arith
+    most Bits57 = omega arith
 
 -- ---- tables of areas that go
 
@@ -507,13 +508,14 @@ below_idle levels left level row is = (and_parts (is_idle levels left row) _ is)
 
 -- a table's number is below that of its pages
 pub number_few : (width : Width) (level address : ℕ) → address < 2 ^ bits_of width
-    → number_at level (page_of address) < 2 ^ 36
+    → number_at level (page_of address) < 2 ^ 45
 unfolding number_at
 number_few width level address below =
     let less = div-le_self (page_of address) (2 ^ (9 * level)) in
     let small = page_few width below in
     omega (arith, less, small)
   where
-    page_few : (w : Width) → address < 2 ^ bits_of w → page_of address < 2 ^ 36
+    page_few : (w : Width) → address < 2 ^ bits_of w → page_of address < 2 ^ 45
     page_few Bits39 low = omega (arith, low)
     page_few Bits48 low = omega (arith, low)
+    page_few Bits57 low = omega (arith, low)

@@ -30,7 +30,7 @@ pub fn count_idle<A: Allocator, B: Allocator>(
 ) -> u64
     requires table { IsTable pool.now table.now }
     requires areas { CanLeave table.now.width areas.now.areas span }
-    ensures small { result ≤ 2 ^ 39 }
+    ensures small { result ≤ 5 * 2 ^ 45 }
     ensures idle { IfStands pool.now table.now (λ rows pages.
         list_any (is_idle (levels_of table.now.width) areas.now.areas) rows ≡ false →
         result ≡ count_by (is_idle (levels_of table.now.width) (areas_outside span areas.now.areas)) rows) }
@@ -54,7 +54,7 @@ fn count_at<A: Allocator, B: Allocator>(
     requires areas { CanLeave table.now.width areas.now.areas span }
     requires some { 0 < level }
     requires low { level < levels_of table.now.width }
-    ensures small { result ≤ 2 ^ 36 }
+    ensures small { result ≤ 2 ^ 45 }
     ensures idle { IfStands pool.now table.now (λ rows pages.
         list_any (is_idle (levels_of table.now.width) areas.now.areas) rows ≡ false →
         result ≡ count_by (is_idle_at (levels_of table.now.width) (areas_outside span areas.now.areas) level) rows) }

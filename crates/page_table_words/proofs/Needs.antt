@@ -17,7 +17,7 @@ use Rattle.iofd_words.specs.Pages.{page_of}
 use Rattle.iofd_words.specs.Width.{bits_of}
 use Rattle.iofd_words.specs.declared.numbers.FrameNo.{FrameNo}
 use Rattle.iofd_words.specs.declared.width.Width.{Width}
-use Rattle.iofd_words.specs.declared.width.Width.TheVariants.{Bits39, Bits48}
+use Rattle.iofd_words.specs.declared.width.Width.TheVariants.{Bits39, Bits48, Bits57}
 use Rattle.frame_memory.specs.Pool.{FramePool}
 use Rattle.iofd_words.specs.Levels.{levels_of, number_at}
 use Rattle.page_table_words.specs.Mapped.{IsBelow}
@@ -35,6 +35,7 @@ use Rattle.page_table_words.proofs.Tables.{none_below, tables_above}
 width_end : (width : Width) → 2 ^ bits_of width ≡ 2 ^ (9 * levels_of width) * 4096
 width_end Bits39 = refl
 width_end Bits48 = refl
+width_end Bits57 = refl
 
 pub first_below : (width : Width) (level number : ℕ) → level ≤ levels_of width
     → number < 2 ^ (9 * (levels_of width - level)) → IsBelow width (first_page level number)
@@ -342,3 +343,4 @@ bound width level spans index span ordered within is =
     small : (w : Width) → span.last < 2 ^ bits_of w → span.last < 2 ^ 64
     small Bits39 below = omega (arith, below)
     small Bits48 below = omega (arith, below)
+    small Bits57 below = omega (arith, below)

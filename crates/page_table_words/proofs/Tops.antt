@@ -3,7 +3,7 @@ use Rattle.std.proofs.Common.{◌≡◌, ℕ, ◌*◌, ◌^◌, ◌<◌, Some, L
 use Rattle.std.proofs.Math.Nat.{zero-div}
 use Rattle.iofd_words.specs.declared.numbers.FrameNo.{FrameNo}
 use Rattle.iofd_words.specs.declared.width.Width.{Width}
-use Rattle.iofd_words.specs.declared.width.Width.TheVariants.{Bits39, Bits48}
+use Rattle.iofd_words.specs.declared.width.Width.TheVariants.{Bits39, Bits48, Bits57}
 use Rattle.frame_memory.specs.Pool.{FramePool}
 use Rattle.iofd_words.specs.Levels.{levels_of, number_at}
 use Rattle.page_table_words.specs.Mapped.{IsBelow, IsTable}
@@ -18,10 +18,18 @@ below_end : (width : Width) (page : ℕ) → IsBelow width page → number_at (l
 unfolding number_at
 below_end Bits39 page below = omega arith
 below_end Bits48 page below = omega arith
+below_end Bits57 page below = omega arith
 
 pub some_levels : (width : Width) → 0 < levels_of width
 some_levels Bits39 = omega arith
 some_levels Bits48 = omega arith
+some_levels Bits57 = omega arith
+
+-- the number of a page below the width fits a word
+pub page_fits : (width : Width) (page : ℕ) → IsBelow width page → page < 2 ^ 64
+page_fits Bits39 page below = omega (arith, below)
+page_fits Bits48 page below = omega (arith, below)
+page_fits Bits57 page below = omega (arith, below)
 
 pub number-first : (level : ℕ) → number_at level 0 ≡ 0
 unfolding number_at

@@ -74,6 +74,8 @@ fn are_widths() -> bool {
         && Width::Bits39.end() == 0x80_0000_0000
         && Width::Bits48.bits() == 48
         && Width::Bits48.end() == 0x1_0000_0000_0000
+        && Width::Bits57.bits() == 57
+        && Width::Bits57.end() == 0x200_0000_0000_0000
 }
 
 fn are_reasons() -> bool {

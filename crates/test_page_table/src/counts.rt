@@ -48,4 +48,5 @@ fn counted(alloc: Global, width: Width) -> Option<u64> {
 fn an_area_of_all_pages_needs_all_tables(rt: HostRuntime) {
     assert!(rt; counted(rt.alloc(), Width::Bits39) == Some(0x4_0201));
     assert!(rt; counted(rt.alloc(), Width::Bits48) == Some(0x804_0201));
+    assert!(rt; counted(rt.alloc(), Width::Bits57) == Some(0x10_0804_0201));
 }

@@ -48,7 +48,7 @@ enum Answer {
 }
 
 /// Keeps a span above every width, so that all go through which no mapped page goes.
-const ALL_GO: Call = Call::Prune(0x10_0000_0000, 0x10_0000_0000);
+const ALL_GO: Call = Call::Prune(0x2000_0000_0000, 0x2000_0000_0000);
 
 const FULL: Answer = Answer::Refused(Cause::Frames);
 
@@ -273,6 +273,28 @@ const ENDS_OF_48: &[(Call, Answer)] = &[
     (Call::Frames, Answer::Gives(7)),
 ];
 
+// the second entry of the root leads to what no table of 48 bits translates
+const ENDS_OF_57: &[(Call, Answer)] = &[
+    (Call::Needs(0, 0, 1, 1), Answer::Gives(4)),
+    (Call::Map(0, 1, READ), Answer::Done),
+    (Call::Map(0x1fff_ffff_ffff, 2, WRITE), Answer::Done),
+    (Call::Walk(0), Answer::Hit(1, READ)),
+    (Call::Walk(0x1ff_ffff_ffff_ffff), Answer::Hit(2, WRITE)),
+    (Call::Walk(0x1_0000_0000_0000), Answer::Nowhere),
+    (Call::Walk(0x200_0000_0000_0000), Answer::Beyond),
+    (Call::Word(0, 0), Answer::Gives(0x1003)),
+    (Call::Word(0, 1), Answer::Gives(0)),
+    (Call::Word(0, 511), Answer::Gives(0x5003)),
+    (Call::Word(4, 0), Answer::Gives(0x1001)),
+    (Call::Word(8, 511), Answer::Gives(0x2002)),
+    (Call::Frames, Answer::Gives(9)),
+    (Call::Clear(0), Answer::Done),
+    (Call::Prune(1, 1), Answer::Gives(0)),
+    (ALL_GO, Answer::Gives(4)),
+    (Call::Taken(12), Answer::Gives(4)),
+    (Call::Frames, Answer::Gives(5)),
+];
+
 const NEEDED: &[(Call, Answer)] = &[
     // one last table, and then one more for each 512 pages; the one that both share is counted once
     (Call::Needs(0, 511, 512, 1023), Answer::Gives(3)),
@@ -364,10 +386,11 @@ const SHORT: &[(Call, Answer)] = &[
     (Call::Map(513, 9, READ), Answer::Done),
 ];
 
-static RUNS: [Run; 8] = [
+static RUNS: [Run; 9] = [
     (2, Width::Bits39, EXAMPLE),
     (0, Width::Bits39, ENDS_OF_39),
     (0, Width::Bits48, ENDS_OF_48),
+    (0, Width::Bits57, ENDS_OF_57),
     (0, Width::Bits39, NEEDED),
     (0, Width::Bits39, AGAIN),
     (0, Width::Bits39, PRUNED),

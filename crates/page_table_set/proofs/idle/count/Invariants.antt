@@ -13,5 +13,5 @@ invariant-loop-hwpt g l = record {
       list_any (is_idle_in l.fn.file l.fn.ioas l.fn.areas.areas l.fn.tables) frames ≡ false
       → l.total ≡ count_by (is_idle_in l.fn.file l.fn.ioas (areas_outside l.fn.span l.fn.areas.areas)
       (take l.hwpt-index l.fn.tables)) frames);
-  small : l.total ≤ 2 ^ 39 * length (hwpts_over l.fn.file l.fn.ioas (take l.hwpt-index l.fn.tables));
+  small : l.total ≤ 5 * 2 ^ 45 * length (hwpts_over l.fn.file l.fn.ioas (take l.hwpt-index l.fn.tables));
 }

@@ -7,5 +7,5 @@ abbrev pub invariant-loop-hwpt : goal.invariant-loop-hwpt
 invariant-loop-hwpt g l = record {
   total : IfAllStand l.fn.pool l.fn.tables (λ frames leads. l.total ≡ tables_needed frames l.fn.file l.fn.ioas l.fn.span
       (take l.hwpt-index l.fn.tables));
-  small : l.total ≤ 2 ^ 38 * length (hwpts_over l.fn.file l.fn.ioas (take l.hwpt-index l.fn.tables));
+  small : l.total ≤ 2 ^ 47 * length (hwpts_over l.fn.file l.fn.ioas (take l.hwpt-index l.fn.tables));
 }

@@ -15,7 +15,7 @@ invariant-loop-area g l = record {
   are : AreLeft l.level l.next (areas_within l.span l.areas.areas) l.area-iterator;
   pages : All (λ area. IsOfPages l.table.width area.span) l.area-iterator;
   few : l.total ≤ l.next;
-  bound : l.next ≤ 2 ^ 36;
+  bound : l.next ≤ 2 ^ 45;
   idle : (rows : List TableRow) (pages : List MappedPage) → TableStands l.pool l.table rows pages
       → list_any (is_idle (levels_of l.table.width) l.areas.areas) rows ≡ false
       → l.total ≡ count_by (is_idle_between (levels_of l.table.width) (areas_outside l.span l.areas.areas) l.level 0

@@ -11,7 +11,7 @@ use Rattle.page_table_spans.proofs.idle.count_idle.Given as goal
 -- those below this level are counted
 abbrev pub invariant-loop-level : goal.invariant-loop-level
 invariant-loop-level g l = record {
-  bound : l.total ≤ l.level * 2 ^ 36;
+  bound : l.total ≤ l.level * 2 ^ 45;
   idle : (rows : List TableRow) (pages : List MappedPage) → TableStands l.pool l.table rows pages
       → list_any (is_idle (levels_of l.table.width) l.areas.areas) rows ≡ false
       → l.total ≡ count_by (is_idle_below (levels_of l.table.width) (areas_outside l.span l.areas.areas) l.level) rows;

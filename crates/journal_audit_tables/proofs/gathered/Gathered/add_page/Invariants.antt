@@ -6,7 +6,7 @@ use Rattle.journal_audit_tables.proofs.gathered.Gathered.add_page.Given as goal
 -- who adds the places that are left has added all
 abbrev pub invariant-loop-left : goal.invariant-loop-left
 invariant-loop-left g l = record {
-  few : l.left ≤ 4;
+  few : l.left ≤ 5;
   rest : (end : Gathered) → Adds l.self end (places_from l.left l.page)
       → Adds l.fn.self end (places_from l.level l.page);
 }

@@ -1,10 +1,16 @@
 use Rattle.std.proofs.Common.{◌≡◌, ◌+◌, ◌-◌, ℕ, true, false, ap, ◌∙◌, arith}
 use Rattle.std.specs.List.{count_by, range_with_len}
 use Rattle.iofd_words.specs.Levels.{levels_of}
-use Rattle.page_table_words.specs.Needed.{is_absent}
+use Rattle.page_table_words.specs.Needed.{first_page, is_absent}
 use Rattle.page_table_words.proofs.Needs.{absent_above, absent_more, first_below, present_from}
+use Rattle.page_table_words.proofs.Tops.{page_fits}
 use Rattle.page_table.proofs.table.Table.absent_between.Goals as goal
 use Rattle.page_table.proofs.table.Table.absent_between.Goals.{then-lowest-level, else-lowest-level}
+
+pub first_page-requires-clause-fits : goal.first_page-requires-clause-fits
+first_page-requires-clause-fits g c =
+    page_fits c.args.self.now.width (first_page c.args.level c.loop-number.number)
+    (first_below c.args.self.now.width c.args.level c.loop-number.number (omega arith) (omega arith))
 
 pub lowest-requires-clause-below : goal.lowest-requires-clause-below
 lowest-requires-clause-below g c =
