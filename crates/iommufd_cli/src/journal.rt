@@ -7,8 +7,8 @@ use iofd_words::{Config, NoMemory, Record};
 use journal_audit_writing::journal;
 use std::alloc::Allocator;
 
-/// The line with the journal of these records, of a server of this configuration: `journal` and the bytes in hex. A
-/// line feed ends it. The error is want of memory, or that a record has no spelling.
+/// The line with the journal, of version 2, of these records of a server of this configuration: `journal` and the bytes
+/// in hex. A line feed ends it. The error is want of memory, or that a record has no spelling.
 pub fn journal_line<A: Allocator + Copy>(
     alloc: A,
     config: &Config<A>,

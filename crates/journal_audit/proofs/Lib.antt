@@ -2,3 +2,4 @@ mod Again
 mod Judged
 mod Reached
 mod Verdicts
+mod Versions

@@ -15,8 +15,9 @@ use Rattle.journal_audit.specs.declared.next.Next.TheVariants as next
 use Rattle.journal_audit.specs.declared.verdict.Verdict.TheVariants.{Run, NotRun, Torn}
 use Rattle.journal_audit_bytes.specs.Format.{Raw, Spells}
 use Rattle.journal_audit_bytes.specs.Head.{SpellsHead}
-use Rattle.journal_audit_bytes.specs.HeadReading.{behind_mark, head_at}
+use Rattle.journal_audit_bytes.specs.HeadReading.{head_at, version_at}
 use Rattle.journal_audit_bytes.specs.Journal.{SpellRecords, SpellsRecord, raw_record}
+use Rattle.journal_audit_bytes.specs.declared.version.Version.{Version}
 use Rattle.journal_audit_bytes.proofs.Heads.{head_again}
 use Rattle.journal_audit_world.specs.Kept.{IsKept}
 use Rattle.journal_audit_world.specs.Unwritten.{unwritten}
@@ -28,18 +29,19 @@ some_bytes : (passes : ℕ) (r : Raw) (text : List ℕ) → Spells passes r text
 some_bytes passes r [] spells = absurd (some_text passes r [] [] spells refl)
 some_bytes passes r (byte ∷ bytes) spells = omega arith
 
-no_head : (x : Settings × List ℕ) → head_at [] ≡ Some x → ⊥
-unfolding head_at behind_mark
+no_head : (x : Version × Settings × List ℕ) → head_at [] ≡ Some x → ⊥
+unfolding head_at version_at
 no_head x is = cc
 
-some_head : (s : Settings) (text : List ℕ) → SpellsHead s text → 0 < length text
-some_head s [] head = absurd (no_head (s, []) (head_again s [] [] head))
-some_head s (byte ∷ bytes) head = omega arith
+some_head : (version : Version) (s : Settings) (text : List ℕ) → SpellsHead version s text → 0 < length text
+some_head version s [] head = absurd (no_head (version, s, []) (head_again version s [] [] head))
+some_head version s (byte ∷ bytes) head = omega arith
 
 -- a run stands before the rest, of so many records, and has left this world
 pub record IsReached (A : Type 0) (bytes : List ℕ) (s : Settings) (rest : List ℕ) (world : World) (index : ℕ) : Type 0 where
+  pub version : Version
   pub records : List (Record A)
-  pub begin : BeginWithRun bytes s records rest
+  pub begin : BeginWithRun bytes version s records rest
   pub count : index ≡ length records
   pub left : unwritten world ≡ unwritten (world_of s records)
   pub few : index + length rest ≤ length bytes
@@ -47,11 +49,12 @@ pub record IsReached (A : Type 0) (bytes : List ℕ) (s : Settings) (rest : List
 module _ {A : Type 0} where
   -- ---- the start
 
-  pub started : (bytes : List ℕ) (s : Settings) (rest : List ℕ) (world : World) (text : List ℕ) → SpellsHead s text
-      → bytes ≡ text ++ rest → world ≡ opening s → IsReached A bytes s rest world 0
+  pub started : (bytes : List ℕ) (version : Version) (s : Settings) (rest : List ℕ) (world : World) (text : List ℕ)
+      → SpellsHead version s text → bytes ≡ text ++ rest → world ≡ opening s → IsReached A bytes s rest world 0
   unfolding IsRun world_of
-  started bytes s rest world text head is opens =
+  started bytes version s rest world text head is opens =
       record {
+        version = version;
         records = [];
         begin = record {
           front = text;
@@ -122,9 +125,10 @@ module _ {A : Type 0} where
   with_settings bytes s rest world index r text reached =
       subst (λ (x : Settings). SpellsRecord x r text) (has_settings bytes s rest world index reached)
 
-  begun_more : (bytes : List ℕ) (s : Settings) (records : List (Record A)) (rest behind : List ℕ) (r : Record A)
-      (text : List ℕ) → BeginWithRun bytes s records rest → SpellsRecord s r text → rest ≡ text ++ behind
-      → Lawful (length records) (world_of s records) r → BeginWithRun bytes s (records ++ r ∷ []) behind
+  begun_more : {v : Version} (bytes : List ℕ) (s : Settings) (records : List (Record A)) (rest behind : List ℕ)
+      (r : Record A) (text : List ℕ) → BeginWithRun bytes v s records rest → SpellsRecord s r text
+      → rest ≡ text ++ behind → Lawful (length records) (world_of s records) r
+      → BeginWithRun bytes v s (records ++ r ∷ []) behind
   begun_more bytes s records rest behind r text b spells is lawful =
       record {
         front = b.front ++ text;
@@ -151,6 +155,7 @@ module _ {A : Type 0} where
       let few : index + length rest ≤ length bytes = reached.few in
       let count : index ≡ length reached.records = reached.count in
       record {
+        version = reached.version;
         records = reached.records ++ r ∷ [];
         begin = begun_more bytes s reached.records rest behind r text reached.begin here is there;
         count = let more = length-append reached.records (r ∷ []) in omega (arith, more, count);
@@ -165,9 +170,10 @@ module _ {A : Type 0} where
   pub all_run : (bytes : List ℕ) (s : Settings) (rest : List ℕ) (world : World) (index : ℕ) → rest ≡ []
       → IsReached A bytes s rest world index → IsVerdict A bytes (Run index)
   all_run bytes s rest world index ends reached = (
+    reached.version,
     s,
     reached.records,
-    subst (λ (x : List ℕ). BeginWithRun bytes s reached.records x) ends reached.begin,
+    subst (λ (x : List ℕ). BeginWithRun bytes reached.version s reached.records x) ends reached.begin,
     reached.count,
   )
 
@@ -176,6 +182,7 @@ module _ {A : Type 0} where
       → IsVerdict A bytes (NotRun index)
   none_goes_on bytes s rest behind world new index reached (raw, text, spells, is, none) =
       let same = has_settings bytes s rest world index reached in (
+        reached.version,
         s,
         reached.records,
         rest,
@@ -200,17 +207,18 @@ module _ {A : Type 0} where
       at_offset (length bytes - length rest) (head_long reached.begin) refl
     where
       -- there is something before it
-      head_long : BeginWithRun bytes s reached.records rest → 0 < length bytes - length rest
+      head_long : BeginWithRun bytes reached.version s reached.records rest → 0 < length bytes - length rest
       head_long b =
           let long : length bytes ≡ length b.front + length rest = ap length b.bytes_are ∙ length-append b.front rest in
           let front : length b.front ≡ length b.journal.head + length b.journal.records =
           ap length b.journal.bytes_are ∙ length-append b.journal.head b.journal.records in
-          let some = some_head s b.journal.head b.journal.head_is in
+          let some = some_head reached.version s b.journal.head b.journal.head_is in
           omega (arith, long, front, some)
 
       at_offset : (offset : ℕ) → 0 < offset → offset ≡ length bytes - length rest → IsVerdict A bytes (Torn offset)
       at_offset zero some is = absurd (omega (arith, some))
       at_offset (suc n) some is = (
+        reached.version,
         s,
         reached.records,
         rest,

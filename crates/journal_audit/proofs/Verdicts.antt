@@ -14,6 +14,7 @@ use Rattle.journal_audit_bytes.specs.Head.{SpellsHead}
 use Rattle.journal_audit_bytes.specs.HeadReading.{head_at}
 use Rattle.journal_audit_bytes.specs.Journal.{SpellRecords, SpellsRecord, raw_record}
 use Rattle.journal_audit_bytes.specs.Reading.{record_at}
+use Rattle.journal_audit_bytes.specs.declared.version.Version.{Version}
 use Rattle.journal_audit_bytes.proofs.Fields.{some_is}
 use Rattle.journal_audit_bytes.proofs.Heads.{head_again}
 use Rattle.journal_audit_bytes.proofs.Records.{record_again}
@@ -22,12 +23,12 @@ use Rattle.journal_audit.proofs.Again.{one_record, spelled_here}
 pub grouped : (a b c : List ℕ) → (a ++ b) ++ c ≡ a ++ (b ++ c)
 grouped a b c = simp append_assoc
 
-one_settings : (s t : Settings) (text other rest behind : List ℕ) → SpellsHead s text → SpellsHead t other
-    → text ++ rest ≡ other ++ behind → (s ≡ t) × (rest ≡ behind)
-one_settings s t text other rest behind p q same =
-    let read = some_is (s, rest) (t, behind) (sym (head_again s text rest p) ∙ ap head_at same
-    ∙ head_again t other behind q) in
-    (ap (λ (x : Settings × List ℕ). x.0) read, ap (λ (x : Settings × List ℕ). x.1) read)
+one_settings : {v w : Version} (s t : Settings) (text other rest behind : List ℕ) → SpellsHead v s text
+    → SpellsHead w t other → text ++ rest ≡ other ++ behind → (s ≡ t) × (rest ≡ behind)
+one_settings {v} {w} s t text other rest behind p q same =
+    let read = some_is (v, s, rest) (w, t, behind) (sym (head_again v s text rest p) ∙ ap head_at same
+    ∙ head_again w t other behind q) in
+    (ap (λ (x : Version × Settings × List ℕ). x.1) read, ap (λ (x : Version × Settings × List ℕ). x.2) read)
 
 nothing_read : (passes : ℕ) (x : Raw × List ℕ) → record_at passes [] ≡ Some x → ⊥
 unfolding record_at
@@ -115,21 +116,21 @@ module _ {A : Type 0} where
   -- ---- two beginnings of the same bytes
 
   -- the bytes as head, records and rest
-  parted : (bytes : List ℕ) (s : Settings) (p : List (Record A)) (rest : List ℕ) (b : BeginWithRun bytes s p rest)
-      → bytes ≡ b.journal.head ++ (b.journal.records ++ rest)
+  pub parted : {v : Version} (bytes : List ℕ) (s : Settings) (p : List (Record A)) (rest : List ℕ)
+      (b : BeginWithRun bytes v s p rest) → bytes ≡ b.journal.head ++ (b.journal.records ++ rest)
   parted bytes s p rest b =
       b.bytes_are ∙ ap (λ (x : List ℕ). x ++ rest) b.journal.bytes_are
       ∙ grouped b.journal.head b.journal.records rest
 
-  same_start : (bytes : List ℕ) (s t : Settings) (p q : List (Record A)) (rest other : List ℕ)
-      → (b : BeginWithRun bytes s p rest) → (d : BeginWithRun bytes t q other)
+  same_start : {v w : Version} (bytes : List ℕ) (s t : Settings) (p q : List (Record A)) (rest other : List ℕ)
+      → (b : BeginWithRun bytes v s p rest) → (d : BeginWithRun bytes w t q other)
       → (s ≡ t) × (b.journal.records ++ rest ≡ d.journal.records ++ other)
   same_start bytes s t p q rest other b d =
       one_settings s t b.journal.head d.journal.head (b.journal.records ++ rest) (d.journal.records ++ other)
       b.journal.head_is d.journal.head_is (sym (parted bytes s p rest b) ∙ parted bytes t q other d)
 
-  compared : (bytes : List ℕ) (s t : Settings) (p q : List (Record A)) (rest other : List ℕ)
-      → BeginWithRun bytes s p rest → BeginWithRun bytes t q other → (s ≡ t) × Compared s p rest q other
+  compared : {v w : Version} (bytes : List ℕ) (s t : Settings) (p q : List (Record A)) (rest other : List ℕ)
+      → BeginWithRun bytes v s p rest → BeginWithRun bytes w t q other → (s ≡ t) × Compared s p rest q other
   compared bytes s t p q rest other b d =
       let start = same_start bytes s t p q rest other b d in (
         start.0,
@@ -157,15 +158,15 @@ module _ {A : Type 0} where
       subst (λ (n : ℕ). Lawful n (world_from 0 (opening s) p) r) here (lawful_from 0 (opening s) p r later run)
 
   -- where a run goes on behind the records, a lawful record stands there
-  goes_on : (bytes : List ℕ) (s t : Settings) (p q : List (Record A)) (rest other : List ℕ) → s ≡ t
-      → BeginWithRun bytes t q other → (b : Behind s p q rest) → Lawful (length p) (world_of s p) b.r
+  goes_on : {w : Version} (bytes : List ℕ) (s t : Settings) (p q : List (Record A)) (rest other : List ℕ) → s ≡ t
+      → BeginWithRun bytes w t q other → (b : Behind s p q rest) → Lawful (length p) (world_of s p) b.r
   goes_on bytes s t p q rest other same d b =
       lawful_behind s p b.r b.later (subst (λ (rs : List (Record A)). IsRun s rs) b.more_is
       (subst (λ (x : Settings). IsRun x q) (sym same) d.run))
 
   -- and where none follows there is none
-  none_there : (bytes : List ℕ) (s t : Settings) (p q : List (Record A)) (rest other : List ℕ) → s ≡ t
-      → BeginWithRun bytes t q other → Behind s p q rest → NoneFollows s p rest → ⊥
+  none_there : {w : Version} (bytes : List ℕ) (s t : Settings) (p q : List (Record A)) (rest other : List ℕ) → s ≡ t
+      → BeginWithRun bytes w t q other → Behind s p q rest → NoneFollows s p rest → ⊥
   none_there bytes s t p q rest other same d b n =
       n.none b.r
       (spelled_here s n.raw b.r n.text b.text n.behind b.left n.spells b.spells (sym n.rest_is ∙ b.rest_is))
@@ -184,10 +185,10 @@ module _ {A : Type 0} where
   none_at_end s p q rest ends b =
       some_text s.passes (raw_record b.r b.spells.reply) b.text b.left b.spells.spells (sym ends ∙ b.rest_is)
 
-  no_head_there : (bytes : List ℕ) (s : Settings) (p : List (Record A)) (rest : List ℕ) → BeginWithRun bytes s p rest
-      → BeginNoHead bytes → ⊥
-  no_head_there bytes s p rest b none =
-      none s b.journal.head (b.journal.records ++ rest) b.journal.head_is (parted bytes s p rest b)
+  no_head_there : {v : Version} (bytes : List ℕ) (s : Settings) (p : List (Record A)) (rest : List ℕ)
+      → BeginWithRun bytes v s p rest → BeginNoHead bytes → ⊥
+  no_head_there {v} bytes s p rest b none =
+      none v s b.journal.head (b.journal.records ++ rest) b.journal.head_is (parted bytes s p rest b)
 
   -- ---- verdicts of the same bytes
 
@@ -195,8 +196,9 @@ module _ {A : Type 0} where
   same_length p q m n same first second = first ∙ ap length same ∙ sym second
 
   -- a run that ends with the bytes, and one behind which something stands
-  ended : (bytes : List ℕ) (s t : Settings) (p q : List (Record A)) (other : List ℕ) → BeginWithRun bytes s p []
-      → (d : BeginWithRun bytes t q other) → (other ≡ [] → ⊥) → ((s ≡ t) → Behind s q p other → ⊥) → ⊥
+  ended : {v w : Version} (bytes : List ℕ) (s t : Settings) (p q : List (Record A)) (other : List ℕ)
+      → BeginWithRun bytes v s p [] → (d : BeginWithRun bytes w t q other) → (other ≡ [] → ⊥)
+      → ((s ≡ t) → Behind s q p other → ⊥) → ⊥
   ended bytes s t p q other b d more not_behind =
       let is = compared bytes s t p q [] other b d in
       elim is.1 [
@@ -206,7 +208,7 @@ module _ {A : Type 0} where
       ]
 
   runs : (bytes : List ℕ) (m n : ℕ) → IsVerdict A bytes (Run m) → IsVerdict A bytes (Run n) → m ≡ n
-  runs bytes m n (s, p, b, count) (t, q, d, other) =
+  runs bytes m n (v, s, p, b, count) (w, t, q, d, other) =
       let is = compared bytes s t p q [] [] b d in
       elim is.1 [
         | inl same ↦ same_length p q m n same.0 count other
@@ -215,21 +217,21 @@ module _ {A : Type 0} where
       ]
 
   run_not : (bytes : List ℕ) (m n : ℕ) → IsVerdict A bytes (Run m) → IsVerdict A bytes (NotRun n) → ⊥
-  run_not bytes m n (s, p, b, count) (t, q, other, d, none, index) =
+  run_not bytes m n (v, s, p, b, count) (w, t, q, other, d, none, index) =
       ended bytes s t p q other b d
       (λ ends. some_text t.passes none.raw none.text none.behind none.spells (sym ends ∙ none.rest_is))
       (λ same behind. none_there bytes s s q p other [] refl b behind
       (subst (λ (x : Settings). NoneFollows x q other) (sym same) none))
 
   run_torn : (bytes : List ℕ) (m offset : ℕ) → IsVerdict A bytes (Run m) → IsVerdict A bytes (Torn offset) → ⊥
-  run_torn bytes m zero (s, p, b, count) torn = no_head_there bytes s p [] b torn
-  run_torn bytes m (suc offset) (s, p, b, count) (t, q, other, d, torn, more, place) =
+  run_torn bytes m zero (v, s, p, b, count) torn = no_head_there bytes s p [] b torn
+  run_torn bytes m (suc offset) (v, s, p, b, count) (w, t, q, other, d, torn, more, place) =
       ended bytes s t p q other b d more
       (λ same behind. none_torn s q p other behind (subst (λ (x : Settings). BeginNoRecord x.passes other) (sym same)
       torn))
 
   nots : (bytes : List ℕ) (m n : ℕ) → IsVerdict A bytes (NotRun m) → IsVerdict A bytes (NotRun n) → m ≡ n
-  nots bytes m n (s, p, rest, b, none, index) (t, q, other, d, nothing, place) =
+  nots bytes m n (v, s, p, rest, b, none, index) (w, t, q, other, d, nothing, place) =
       let is = compared bytes s t p q rest other b d in
       elim is.1 [
         | inl same ↦ same_length p q m n same.0 index place
@@ -239,8 +241,8 @@ module _ {A : Type 0} where
       ]
 
   not_torn : (bytes : List ℕ) (m offset : ℕ) → IsVerdict A bytes (NotRun m) → IsVerdict A bytes (Torn offset) → ⊥
-  not_torn bytes m zero (s, p, rest, b, none, index) torn = no_head_there bytes s p rest b torn
-  not_torn bytes m (suc offset) (s, p, rest, b, none, index) (t, q, other, d, torn, more, place) =
+  not_torn bytes m zero (v, s, p, rest, b, none, index) torn = no_head_there bytes s p rest b torn
+  not_torn bytes m (suc offset) (v, s, p, rest, b, none, index) (w, t, q, other, d, torn, more, place) =
       let is = compared bytes s t p q rest other b d in
       let here = subst (λ (x : Settings). BeginNoRecord x.passes other) (sym is.0) torn in
       elim is.1 [
@@ -251,9 +253,11 @@ module _ {A : Type 0} where
 
 torns : (A : Type 0) (bytes : List ℕ) (a b : ℕ) → IsVerdict A bytes (Torn a) → IsVerdict A bytes (Torn b) → a ≡ b
 torns A bytes zero zero p q = refl
-torns A bytes zero (suc n) none (t, q, other, d, torn, more, place) = absurd (no_head_there {A = A} bytes t q other d none)
-torns A bytes (suc m) zero (s, p, rest, b, torn, more, place) none = absurd (no_head_there {A = A} bytes s p rest b none)
-torns A bytes (suc m) (suc n) (s, p, rest, b, torn, more, place) (t, q, other, d, broken, beyond, offset) =
+torns A bytes zero (suc n) none (w, t, q, other, d, torn, more, place) =
+    absurd (no_head_there {A = A} bytes t q other d none)
+torns A bytes (suc m) zero (v, s, p, rest, b, torn, more, place) none =
+    absurd (no_head_there {A = A} bytes s p rest b none)
+torns A bytes (suc m) (suc n) (v, s, p, rest, b, torn, more, place) (w, t, q, other, d, broken, beyond, offset) =
     let is = compared bytes s t p q rest other b d in
     let here = subst (λ (x : Settings). BeginNoRecord x.passes other) (sym is.0) broken in
     elim is.1 [

@@ -8,20 +8,23 @@ use Rattle.journal_audit.specs.declared.verdict.Verdict.TheVariants.{Run, NotRun
 use Rattle.journal_audit_bytes.specs.Format.{Raw, Spells}
 use Rattle.journal_audit_bytes.specs.Head.{SpellsHead}
 use Rattle.journal_audit_bytes.specs.Journal.{IsJournal, SpellsRecord}
+use Rattle.journal_audit_bytes.specs.declared.version.Version.{Version}
 
--- the bytes begin with no head
+-- the bytes begin with no head of any version
 abbrev pub BeginNoHead : List ℕ → Type 0
-BeginNoHead bytes = (s : Settings) (text rest : List ℕ) → SpellsHead s text → bytes ≡ text ++ rest → ⊥
+BeginNoHead bytes =
+    (version : Version) (s : Settings) (text rest : List ℕ) → SpellsHead version s text → bytes ≡ text ++ rest → ⊥
 
 -- they begin with no record, where there are so many passes
 abbrev pub BeginNoRecord : ℕ → List ℕ → Type 0
 BeginNoRecord passes bytes = (r : Raw) (text rest : List ℕ) → Spells passes r text → bytes ≡ text ++ rest → ⊥
 
 module _ {A : Type 0} where
-  -- the bytes are the journal of these records, which are a run, and behind it the rest
-  pub record BeginWithRun (bytes : List ℕ) (s : Settings) (records : List (Record A)) (rest : List ℕ) : Type 0 where
+  -- the bytes are the journal of this version of these records, which are a run, and behind it the rest
+  pub record BeginWithRun (bytes : List ℕ) (version : Version) (s : Settings) (records : List (Record A))
+      (rest : List ℕ) : Type 0 where
     pub front : List ℕ
-    pub journal : IsJournal s records front
+    pub journal : IsJournal version s records front
     pub run : IsRun s records
     pub bytes_are : bytes ≡ front ++ rest
 
@@ -34,16 +37,18 @@ module _ {A : Type 0} where
     pub rest_is : rest ≡ text ++ behind
     pub none : (r : Record A) → SpellsRecord s r text → Lawful (length records) (world_of s records) r → ⊥
 
--- a journal of so many records, which are a run; or the records in front of the one at this index, counted from 0,
--- are a run with which that one doesn't go on; or the bytes begin with no head, at 0, or behind a head and a run no
--- record begins at this offset
+-- a journal, of either version, of so many records, which are a run; or the records in front of the one at this index,
+-- counted from 0, are a run with which that one doesn't go on; or the bytes begin with no head, at 0, or behind a head
+-- and a run no record begins at this offset
 abbrev pub IsVerdict : Type 0 → List ℕ → Verdict → Type 0
 IsVerdict A bytes (Run count) =
-    (s : Settings) × (records : List (Record A)) × BeginWithRun bytes s records [] × (count ≡ length records)
+    (version : Version) × (s : Settings) × (records : List (Record A)) × BeginWithRun bytes version s records []
+    × (count ≡ length records)
 IsVerdict A bytes (NotRun index) =
-    (s : Settings) × (records : List (Record A)) × (rest : List ℕ) × BeginWithRun bytes s records rest
-    × NoneFollows s records rest × (index ≡ length records)
+    (version : Version) × (s : Settings) × (records : List (Record A)) × (rest : List ℕ)
+    × BeginWithRun bytes version s records rest × NoneFollows s records rest × (index ≡ length records)
 IsVerdict A bytes (Torn zero) = BeginNoHead bytes
 IsVerdict A bytes (Torn (suc offset)) =
-    (s : Settings) × (records : List (Record A)) × (rest : List ℕ) × BeginWithRun bytes s records rest
-    × BeginNoRecord s.passes rest × (rest ≢ []) × (length bytes ≡ suc offset + length rest)
+    (version : Version) × (s : Settings) × (records : List (Record A)) × (rest : List ℕ)
+    × BeginWithRun bytes version s records rest × BeginNoRecord s.passes rest × (rest ≢ [])
+    × (length bytes ≡ suc offset + length rest)

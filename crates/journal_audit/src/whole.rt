@@ -1,10 +1,14 @@
 //! A whole journal.
 
-ghost use Rattle.std.specs.Prelude.{◌≡◌, ◌++◌, List, ℕ, IfOk};
+ghost use Rattle.std.specs.Prelude.{◌≡◌, ◌≢◌, ◌++◌, List, ℕ, IfOk};
 ghost use Rattle.iofd_words.specs.World.{opening};
 ghost use Rattle.journal_audit.specs.Verdict.{IsVerdict};
 ghost use Rattle.journal_audit.specs.declared.verdict.Verdict.{Verdict};
+ghost use Rattle.journal_audit.specs.declared.verdict.Verdict.TheVariants.{Torn};
 ghost use Rattle.journal_audit_bytes.specs.Head.{SpellsHead};
+ghost use Rattle.journal_audit_bytes.specs.Version.{mark};
+ghost use Rattle.journal_audit_bytes.specs.declared.version.Version.{Version};
+ghost use Rattle.journal_audit_bytes.specs.declared.version.Version.TheVariants.{One, Two};
 
 use crate::next::{Next, read_next};
 use crate::verdict::Verdict;
@@ -13,15 +17,18 @@ use journal_audit_bytes::{ReadError, read_head};
 use journal_audit_world::World;
 use std::alloc::Allocator;
 
-/// What these bytes are, by the definitions alone: a journal whose records are a run, and how many; or which record is
-/// the first that doesn't go on with the run; or where no record, or no head, begins. Its only error is want of memory.
-/// It takes memory by what the records hold and leave, and never by a number that stands in them.
+/// What these bytes are, by the definitions alone: a journal of either version whose records are a run, and how many;
+/// or which record is the first that doesn't go on with the run; or where no record, or no head, begins. Its only error
+/// is want of memory. It takes memory by what the records hold and leave, and never by a number that stands in them.
 pub fn audit<A: Allocator + Copy>(alloc: A, bytes: &[u8]) -> Result<Verdict, NoMemory>
     ensures found { IfOk result (λ verdict. IsVerdict A bytes.now verdict) }
     ensures only { (v : Verdict) → IsVerdict A bytes.now v → IfOk result (λ verdict. verdict ≡ v) }
+    // Bytes of version 1 that aren't torn are the same with version 2's mark in place of their own.
+    ensures versions { (rest : List ℕ) (v : Verdict) → ((offset : ℕ) → v ≢ Torn offset) →
+        IsVerdict A (mark One ++ rest) v → IsVerdict A (mark Two ++ rest) v }
 {
     match read_head(alloc, bytes) {
-        Ok((config, rest)) => {
+        Ok((_, config, rest)) => {
             let mut world = World::opening(alloc, config);
             go_through(alloc, &mut world, bytes, rest)
         }
@@ -38,7 +45,8 @@ fn go_through<A: Allocator + Copy>(
     records: &[u8],
 ) -> Result<Verdict, NoMemory>
     requires opening { world.old ≡ opening world.old.settings }
-    requires head { (text : List ℕ) × SpellsHead world.old.settings text × (bytes.now ≡ text ++ records.now) }
+    requires head { (version : Version) × (text : List ℕ) × SpellsHead version world.old.settings text
+        × (bytes.now ≡ text ++ records.now) }
     ensures { IfOk result (λ verdict. IsVerdict A bytes.now verdict) }
 {
     let mut rest = records;

@@ -9,14 +9,15 @@ use Rattle.iofd_words.specs.Bounds.{Bounds}
 use Rattle.iofd_words.specs.Settings.{DeviceSettings}
 use Rattle.iofd_words.specs.Width.{bits_of}
 use Rattle.iofd_words.specs.declared.numbers.UserNo.{UserNo}
-use Rattle.iofd_words.specs.declared.width.Width.TheVariants.{Bits39, Bits48}
+use Rattle.iofd_words.specs.declared.width.Width.TheVariants.{Bits39, Bits48, Bits57}
 use Rattle.iofd_words.specs.declared.width as address
 use Rattle.journal_audit_bytes.specs.Head.{CountedFit, DeviceFits, LimitFits, SpanFits, UserFits, all_spelled, counted}
-use Rattle.journal_audit_bytes.specs.Head.{device_spelled, limit_spelled, span_spelled, user_spelled, width_of, widths}
-use Rattle.journal_audit_bytes.specs.Head.{x86_number}
+use Rattle.journal_audit_bytes.specs.Head.{device_spelled, limit_spelled, span_spelled, user_spelled, x86_number}
 use Rattle.journal_audit_bytes.specs.HeadReading.{counted_at, device_at, limit_at, many_at, span_at, user_at, width_at}
 use Rattle.journal_audit_bytes.specs.HeadReading.{x86_at, x86_of}
 use Rattle.journal_audit_bytes.specs.Reading.{◌>>=◌, number_at, some_if}
+use Rattle.journal_audit_bytes.specs.Version.{width_of, widths}
+use Rattle.journal_audit_bytes.specs.declared.version.Version.{Version}
 use Rattle.journal_audit_bytes.proofs.Fields.{IsBytes, IsWide, Takes, Takes-then, bind_some, number_again, number_takes}
 use Rattle.journal_audit_bytes.proofs.Fields.{some_is, wide8, wide16, wide64}
 use Rattle.journal_audit_bytes.proofs.Records.{guard_some}
@@ -145,23 +146,25 @@ found_passes {X} p (y ∷ ys) x is = by_test (p y) refl (λ later. found_passes 
 bits_below : (width : address.Width.Width) → bits_of width < 256
 bits_below Bits39 = omega arith
 bits_below Bits48 = omega arith
+bits_below Bits57 = omega arith
 
-width_reads : Reads width_at (λ width. to_le_bytes w8 (bits_of width)) (λ width. width_of (bits_of width) ≡ Some width)
+width_reads : (version : Version) → Reads (width_at version) (λ width. to_le_bytes w8 (bits_of width))
+    (λ width. width_of version (bits_of width) ≡ Some width)
 unfolding width_at
-width_reads = record {
+width_reads version = record {
   takes = λ bytes x fits is.
-      let a = bind_some (number_at w8 bytes) (λ bits. width_of bits.0 >>= λ width.
+      let a = bind_some (number_at w8 bytes) (λ bits. width_of version bits.0 >>= λ width.
       (let o : Option (address.Width.Width × List ℕ) = Some (width, bits.1) in o)) x is in
-      let b = bind_some (width_of a.0.0) (λ width.
+      let b = bind_some (width_of version a.0.0) (λ width.
       (let o : Option (address.Width.Width × List ℕ) = Some (width, a.0.1) in o)) x a.2 in
       let bits : bits_of b.0 ≡ a.0.0 = eqb-true (bits_of b.0) a.0.0
-      (found_passes (λ width. eqb (bits_of width) a.0.0) widths b.0 b.1) in
+      (found_passes (λ width. eqb (bits_of width) a.0.0) (widths version) b.0 b.1) in
       let first = number_takes w8 wide8 bytes a.0.0 a.0.1 fits a.1 in
       subst (λ (y : address.Width.Width × List ℕ).
-      Takes bytes (to_le_bytes w8 (bits_of y.0)) y.1 × (width_of (bits_of y.0) ≡ Some y.0))
+      Takes bytes (to_le_bytes w8 (bits_of y.0)) y.1 × (width_of version (bits_of y.0) ≡ Some y.0))
       (some_is (b.0, a.0.1) x b.2) (
         subst (λ (n : ℕ). Takes bytes (to_le_bytes w8 n) a.0.1) (sym bits) first.0,
-        subst (λ (n : ℕ). width_of n ≡ Some b.0) (sym bits) b.1,
+        subst (λ (n : ℕ). width_of version n ≡ Some b.0) (sym bits) b.1,
       );
   again = λ width rest fits. rw (number_again w8 wide8 (bits_of width) rest (bits_below width), fits) refl;
 }
@@ -201,12 +204,14 @@ reserved_reads : Reads (counted_at span_at) (λ xs. counted span_spelled xs)
     (λ xs. CountedFit (λ span. SpanFits span) xs)
 reserved_reads = counted_reads span_at span_spelled (λ span. SpanFits span) span_reads
 
-pub device_reads : Reads device_at device_spelled (λ device. DeviceFits device)
+pub device_reads : (version : Version) → Reads (device_at version) device_spelled
+    (λ device. DeviceFits version device)
 unfolding device_at
-device_reads = record {
+device_reads version = record {
   takes = λ bytes x fits is.
-      let a = bind_some (number_at w16 bytes) (λ source. width_at source.1 >>= λ width. x86_at width.1 >>= λ x86.
-      counted_at span_at x86.1 >>= λ reserved. (let o : Option (DeviceSettings × List ℕ) = Some (
+      let a = bind_some (number_at w16 bytes) (λ source. width_at version source.1 >>= λ width.
+      x86_at width.1 >>= λ x86. counted_at span_at x86.1 >>= λ reserved.
+      (let o : Option (DeviceSettings × List ℕ) = Some (
         record {
           source = record { 0 = source.0 };
           width = width.0;
@@ -215,7 +220,7 @@ device_reads = record {
         },
         reserved.1,
       ) in o)) x is in
-      let w = bind_some (width_at a.0.1) (λ width. x86_at width.1 >>= λ x86.
+      let w = bind_some (width_at version a.0.1) (λ width. x86_at width.1 >>= λ x86.
       counted_at span_at x86.1 >>= λ reserved. (let o : Option (DeviceSettings × List ℕ) = Some (
         record {
           source = record { 0 = a.0.0 };
@@ -255,13 +260,13 @@ device_reads = record {
         r.0.1,
       ) in
       let source = number_takes w16 wide16 bytes a.0.0 a.0.1 fits a.1 in
-      let width = width_reads.takes a.0.1 w.0 source.0.rest_fits w.1 in
+      let width = (width_reads version).takes a.0.1 w.0 source.0.rest_fits w.1 in
       let x86 = x86_reads.takes w.0.1 m.0 width.0.rest_fits m.1 in
       let reserved = reserved_reads.takes m.0.1 r.0 x86.0.rest_fits r.1 in
       let spans : List ℕ = counted span_spelled r.0.0 in
       let marked : List ℕ = to_le_bytes w8 (x86_number m.0.0) in
       let wide : List ℕ = to_le_bytes w8 (bits_of w.0.0) in
-      subst (λ (y : DeviceSettings × List ℕ). Takes bytes (device_spelled y.0) y.1 × DeviceFits y.0)
+      subst (λ (y : DeviceSettings × List ℕ). Takes bytes (device_spelled y.0) y.1 × DeviceFits version y.0)
       (some_is made x r.2) (
         Takes-then bytes (to_le_bytes w16 a.0.0) a.0.1 (wide ++ (marked ++ spans)) r.0.1 source.0
             (Takes-then a.0.1 wide w.0.1 (marked ++ spans) r.0.1 width.0
@@ -274,10 +279,10 @@ device_reads = record {
       let wide : List ℕ = to_le_bytes w8 (bits_of x.width) in
       let grouped : device_spelled x ++ rest ≡ to_le_bytes w16 x.source.0 ++ (wide ++ (marked ++ (spans ++ rest))) =
       simp append_assoc in
-      ap device_at grouped
+      ap (device_at version) grouped
       ∙ rw (
         number_again w16 wide16 x.source.0 (wide ++ (marked ++ (spans ++ rest))) fits.source,
-        width_reads.again x.width (marked ++ (spans ++ rest)) fits.width,
+        (width_reads version).again x.width (marked ++ (spans ++ rest)) fits.width,
         x86_reads.again x.x86 (spans ++ rest) tt,
         reserved_reads.again x.reserved rest fits.reserved,
       ) refl;

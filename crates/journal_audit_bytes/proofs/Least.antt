@@ -7,10 +7,11 @@ use Rattle.iofd_words.specs.Settings.{DeviceSettings}
 use Rattle.iofd_words.specs.declared.numbers.UserNo.{UserNo}
 use Rattle.iofd_words.specs.declared.width.Width.{Width}
 use Rattle.std.proofs.Common.{Bool}
-use Rattle.journal_audit_bytes.specs.Head.{width_of}
 use Rattle.journal_audit_bytes.specs.HeadReading.{TakesLeast, counted_at, device_at, limit_at, span_at, user_at}
 use Rattle.journal_audit_bytes.specs.HeadReading.{width_at, x86_at, x86_of}
 use Rattle.journal_audit_bytes.specs.Reading.{◌>>=◌, number_at, some_if}
+use Rattle.journal_audit_bytes.specs.Version.{width_of}
+use Rattle.journal_audit_bytes.specs.declared.version.Version.{Version}
 use Rattle.journal_audit_bytes.proofs.Elements.{number_left}
 use Rattle.journal_audit_bytes.proofs.Fields.{bind_some, some_is}
 use Rattle.journal_audit_bytes.proofs.Many.{counted_left}
@@ -57,12 +58,14 @@ span_takes bytes x is =
 pub span_least : TakesLeast span_at 16
 span_least = record { some = omega arith; takes = span_takes }
 
-width_takes : (bytes : List ℕ) (x : Width × List ℕ) → width_at bytes ≡ Some x → length x.1 + 1 ≤ length bytes
+width_takes : (version : Version) (bytes : List ℕ) (x : Width × List ℕ) → width_at version bytes ≡ Some x
+    → length x.1 + 1 ≤ length bytes
 unfolding width_at
-width_takes bytes x is =
-    let a = bind_some (number_at w8 bytes) (λ bits. width_of bits.0 >>= λ width.
+width_takes version bytes x is =
+    let a = bind_some (number_at w8 bytes) (λ bits. width_of version bits.0 >>= λ width.
     (let o : Option (Width × List ℕ) = Some (width, bits.1) in o)) x is in
-    let b = bind_some (width_of a.0.0) (λ width. (let o : Option (Width × List ℕ) = Some (width, a.0.1) in o)) x a.2 in
+    let b = bind_some (width_of version a.0.0)
+    (λ width. (let o : Option (Width × List ℕ) = Some (width, a.0.1) in o)) x a.2 in
     omega (arith, number_left w8 bytes a.0 a.1, same_rest (b.0, a.0.1) x b.2)
 
 x86_takes : (bytes : List ℕ) (x : Bool × List ℕ) → x86_at bytes ≡ Some x → length x.1 + 1 ≤ length bytes
@@ -73,11 +76,11 @@ x86_takes bytes x is =
     let b = bind_some (x86_of a.0.0) (λ x86. (let o : Option (Bool × List ℕ) = Some (x86, a.0.1) in o)) x a.2 in
     omega (arith, number_left w8 bytes a.0 a.1, same_rest (b.0, a.0.1) x b.2)
 
-device_takes : (bytes : List ℕ) (x : DeviceSettings × List ℕ) → device_at bytes ≡ Some x
+device_takes : (version : Version) (bytes : List ℕ) (x : DeviceSettings × List ℕ) → device_at version bytes ≡ Some x
     → length x.1 + 6 ≤ length bytes
 unfolding device_at
-device_takes bytes x is =
-    let a = bind_some (number_at w16 bytes) (λ source. width_at source.1 >>= λ width. x86_at width.1 >>= λ x86.
+device_takes version bytes x is =
+    let a = bind_some (number_at w16 bytes) (λ source. width_at version source.1 >>= λ width. x86_at width.1 >>= λ x86.
     counted_at span_at x86.1 >>= λ reserved. (let o : Option (DeviceSettings × List ℕ) = Some (
       record {
         source = record { 0 = source.0 };
@@ -87,7 +90,7 @@ device_takes bytes x is =
       },
       reserved.1,
     ) in o)) x is in
-    let w = bind_some (width_at a.0.1) (λ width. x86_at width.1 >>= λ x86.
+    let w = bind_some (width_at version a.0.1) (λ width. x86_at width.1 >>= λ x86.
     counted_at span_at x86.1 >>= λ reserved. (let o : Option (DeviceSettings × List ℕ) = Some (
       record {
         source = record { 0 = a.0.0 };
@@ -128,11 +131,11 @@ device_takes bytes x is =
     omega (
       arith,
       number_left w16 bytes a.0 a.1,
-      width_takes a.0.1 w.0 w.1,
+      width_takes version a.0.1 w.0 w.1,
       x86_takes w.0.1 m.0 m.1,
       counted_left span_at 16 span_least m.0.1 r.0 r.1,
       same_rest made x r.2,
     )
 
-pub device_least : TakesLeast device_at 6
-device_least = record { some = omega arith; takes = device_takes }
+pub device_least : (version : Version) → TakesLeast (device_at version) 6
+device_least version = record { some = omega arith; takes = device_takes version }

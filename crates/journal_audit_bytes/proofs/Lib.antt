@@ -6,3 +6,4 @@ pub mod HeadParts
 pub mod Least
 pub mod Many
 pub mod Records
+pub mod Versions

@@ -1,7 +1,8 @@
--- The bytes of a journal's head: its mark; the size of the pool; the limits of the users; the users of the files; the
--- devices; how many passes there are. All numbers are little-endian, and each list stands behind its number.
-use Rattle.std.specs.Prelude.{◌≡◌, ℕ, ◌^◌, ◌<◌, ◌≤◌, Bool, ◌==◌, Option, Some, None, List, [], ◌∷◌, ◌++◌, find}
-use Rattle.std.specs.Prelude.{length, codes, if◌then◌else◌}
+-- The bytes of a journal's head: the mark of its version; the size of the pool; the limits of the users; the users of
+-- the files; the devices; how many passes there are. All numbers are little-endian, and each list stands behind its
+-- number.
+use Rattle.std.specs.Prelude.{◌≡◌, ℕ, ◌^◌, ◌<◌, ◌≤◌, Bool, Some, None, List, [], ◌∷◌, ◌++◌, length}
+use Rattle.std.specs.Prelude.{if◌then◌else◌}
 use Rattle.std.specs.Int.{w8, w16, w32, w64, to_le_bytes}
 use Rattle.std.specs.List.{AllByRecursion}
 use Rattle.iofd_words.specs.Bounds.{Bounds}
@@ -9,18 +10,8 @@ use Rattle.iofd_words.specs.Limits.{first_outside}
 use Rattle.iofd_words.specs.Settings.{DeviceSettings, Settings}
 use Rattle.iofd_words.specs.Width.{bits_of}
 use Rattle.iofd_words.specs.declared.numbers.UserNo.{UserNo}
-use Rattle.iofd_words.specs.declared.width.Width.{Width}
-use Rattle.iofd_words.specs.declared.width.Width.TheVariants.{Bits39, Bits48}
-
--- ---- what this version of the format has, and another may have otherwise
-
--- the first bytes of a journal
-abbrev pub mark : List ℕ
-mark = codes "IOFDJNL1"
-
--- the widths of addresses that can be spelled
-abbrev pub widths : List Width
-widths = Bits39 ∷ Bits48 ∷ []
+use Rattle.journal_audit_bytes.specs.Version.{mark, width_of}
+use Rattle.journal_audit_bytes.specs.declared.version.Version.{Version}
 
 -- ---- lists
 
@@ -64,10 +55,6 @@ pub record SpanFits (span : Bounds) : Type 0 where
   pub first : span.first < 2 ^ 64
   pub last : span.last < 2 ^ 64
 
--- the width of so many bits, if it can be spelled
-abbrev pub width_of : ℕ → Option Width
-width_of bits = find (λ width. bits_of width == bits) widths
-
 -- 1 for an x86 device, 0 for another
 abbrev pub x86_number : Bool → ℕ
 x86_number x86 = if x86 then 1 else 0
@@ -79,27 +66,31 @@ device_spelled device =
     ++ (to_le_bytes w8 (bits_of device.width)
     ++ (to_le_bytes w8 (x86_number device.x86) ++ counted span_spelled device.reserved))
 
-pub record DeviceFits (device : DeviceSettings) : Type 0 where
+pub record DeviceFits (version : Version) (device : DeviceSettings) : Type 0 where
   pub source : device.source.0 < 2 ^ 16
-  pub width : width_of (bits_of device.width) ≡ Some device.width
+  pub width : width_of version (bits_of device.width) ≡ Some device.width
   pub reserved : CountedFit SpanFits device.reserved
 
 -- ---- the head
 
-abbrev pub head_spelled : Settings → List ℕ
-head_spelled s =
-    mark
-    ++ (to_le_bytes w32 s.pool
+-- what stands behind the mark
+abbrev pub settings_spelled : Settings → List ℕ
+settings_spelled s =
+    to_le_bytes w32 s.pool
     ++ (counted limit_spelled s.users
     ++ (counted user_spelled s.files
-    ++ (counted device_spelled s.devices ++ to_le_bytes w16 s.passes))))
+    ++ (counted device_spelled s.devices ++ to_le_bytes w16 s.passes)))
 
--- these bytes are the head of a journal with these settings, which are within the limits of a configuration
-pub record SpellsHead (s : Settings) (bytes : List ℕ) : Type 0 where
+abbrev pub head_spelled : Version → Settings → List ℕ
+head_spelled version s = mark version ++ settings_spelled s
+
+-- these bytes are the head of a journal of this version with these settings, which are within the limits of a
+-- configuration
+pub record SpellsHead (version : Version) (s : Settings) (bytes : List ℕ) : Type 0 where
   pub within : first_outside s ≡ None
   pub pool_fits : s.pool < 2 ^ 32
   pub users_fit : CountedFit LimitFits s.users
   pub files_fit : CountedFit UserFits s.files
-  pub devices_fit : CountedFit DeviceFits s.devices
+  pub devices_fit : CountedFit (λ device. DeviceFits version device) s.devices
   pub passes_fit : s.passes < 2 ^ 16
-  pub bytes_are : bytes ≡ head_spelled s
+  pub bytes_are : bytes ≡ head_spelled version s

@@ -9,8 +9,10 @@ use Rattle.iofd_words.specs.Limits.{first_outside}
 use Rattle.iofd_words.specs.Settings.{DeviceSettings, Settings}
 use Rattle.iofd_words.specs.declared.numbers.UserNo.{UserNo}
 use Rattle.iofd_words.specs.declared.width.Width.{Width}
-use Rattle.journal_audit_bytes.specs.Head.{mark, width_of}
 use Rattle.journal_audit_bytes.specs.Reading.{◌>>=◌, number_at, some_if}
+use Rattle.journal_audit_bytes.specs.Version.{mark, width_of}
+use Rattle.journal_audit_bytes.specs.declared.version.Version.{Version}
+use Rattle.journal_audit_bytes.specs.declared.version.Version.TheVariants.{One, Two}
 
 -- what is read so takes some bytes, and never fewer
 pub record TakesLeast {X : Type 0} (one : List ℕ → Option (X × List ℕ)) (least : ℕ) : Type 0 where
@@ -45,10 +47,10 @@ span_at bytes = do
   last ← number_at w64 first.1
   some_if (nat_le first.0 last.0) (record { first = first.0; last = last.0 }, last.1)
 
-unfoldable pub width_at : List ℕ → Option (Width × List ℕ)
-width_at bytes = do
+unfoldable pub width_at : Version → List ℕ → Option (Width × List ℕ)
+width_at version bytes = do
   bits ← number_at w8 bytes
-  width ← width_of bits.0
+  width ← width_of version bits.0
   Some (width, bits.1)
 
 abbrev pub x86_of : ℕ → Option Bool
@@ -60,29 +62,38 @@ x86_at bytes = do
   x86 ← x86_of number.0
   Some (x86, number.1)
 
-unfoldable pub device_at : List ℕ → Option (DeviceSettings × List ℕ)
-device_at bytes = do
+unfoldable pub device_at : Version → List ℕ → Option (DeviceSettings × List ℕ)
+device_at version bytes = do
   source ← number_at w16 bytes
-  width ← width_at source.1
+  width ← width_at version source.1
   x86 ← x86_at width.1
   reserved ← counted_at span_at x86.1
   Some (record { source = record { 0 = source.0 }; width = width.0; x86 = x86.0; reserved = reserved.0 }, reserved.1)
 
--- the bytes behind the mark
-unfoldable pub behind_mark : List ℕ → Option (List ℕ)
-behind_mark bytes = some_if (bytes_eq (take (length mark) bytes) mark) (drop (length mark) bytes)
+-- the bytes begin with this version's mark
+abbrev pub is_marked : Version → List ℕ → Bool
+is_marked version bytes = bytes_eq (take (length (mark version)) bytes) (mark version)
+
+abbrev pub behind_mark : Version → List ℕ → List ℕ
+behind_mark version bytes = drop (length (mark version)) bytes
+
+-- the version whose mark stands at the front, and the bytes behind it
+unfoldable pub version_at : List ℕ → Option (Version × List ℕ)
+version_at bytes =
+    if is_marked One bytes then Some (One, behind_mark One bytes)
+    else some_if (is_marked Two bytes) (Two, behind_mark Two bytes)
 
 -- the settings, if they are within the limits
-unfoldable pub settings_if : Settings → List ℕ → Option (Settings × List ℕ)
-settings_if s rest = if is_none (first_outside s) then Some (s, rest) else None
+unfoldable pub settings_if : Version → Settings → List ℕ → Option (Version × Settings × List ℕ)
+settings_if version s rest = if is_none (first_outside s) then Some (version, s, rest) else None
 
-unfoldable pub head_at : List ℕ → Option (Settings × List ℕ)
+unfoldable pub head_at : List ℕ → Option (Version × Settings × List ℕ)
 head_at bytes = do
-  rest ← behind_mark bytes
-  pool ← number_at w32 rest
+  version ← version_at bytes
+  pool ← number_at w32 version.1
   users ← counted_at limit_at pool.1
   files ← counted_at user_at users.1
-  devices ← counted_at device_at files.1
+  devices ← counted_at (device_at version.0) files.1
   passes ← number_at w16 devices.1
-  settings_if
+  settings_if version.0
       (record { pool = pool.0; users = users.0; files = files.0; devices = devices.0; passes = passes.0 }) passes.1

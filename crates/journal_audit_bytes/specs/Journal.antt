@@ -6,6 +6,7 @@ use Rattle.journal_audit_bytes.specs.Format.{Raw, Spells}
 use Rattle.journal_audit_bytes.specs.Head.{SpellsHead}
 use Rattle.journal_audit_bytes.specs.Reading.{of_frames, tagged_event, tagged_reply}
 use Rattle.journal_audit_bytes.specs.Replies.{reply_of}
+use Rattle.journal_audit_bytes.specs.declared.version.Version.{Version}
 use Rattle.journal_audit_bytes.specs.declared.spelled.SpelledReply.{SpelledReply}
 
 module _ {A : Type 0} where
@@ -36,10 +37,10 @@ module _ {A : Type 0} where
   SpellRecords s (r ∷ rs) bytes =
       (front : List ℕ) × (rest : List ℕ) × SpellsRecord s r front × SpellRecords s rs rest × (bytes ≡ front ++ rest)
 
-  -- the bytes of the head, and those of the records behind it
-  pub record IsJournal (s : Settings) (rs : List (Record A)) (bytes : List ℕ) : Type 0 where
+  -- the bytes of a head of this version, and those of the records behind it
+  pub record IsJournal (version : Version) (s : Settings) (rs : List (Record A)) (bytes : List ℕ) : Type 0 where
     pub head : List ℕ
-    pub head_is : SpellsHead s head
+    pub head_is : SpellsHead version s head
     pub records : List ℕ
     pub records_are : SpellRecords s rs records
     pub bytes_are : bytes ≡ head ++ records

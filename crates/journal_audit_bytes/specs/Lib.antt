@@ -4,3 +4,4 @@ pub mod HeadReading
 pub mod Journal
 pub mod Reading
 pub mod Replies
+pub mod Version

@@ -6,21 +6,23 @@ ghost use Rattle.journal_audit_bytes.specs.Reading.{Gives, OnMemory};
 
 use crate::numbers::u16_at;
 use crate::spelled::ReadError;
+use crate::version::Version;
 use std::alloc::Allocator;
 
 /// What a list of a head consists of.
 pub trait Element<A: Allocator>: Sized + Drop {
     ghost use Rattle.std.specs.Prelude.{◌≡◌, Option, List, ℕ};
+    ghost use Rattle.journal_audit_bytes.specs.declared.version.Version.{Version};
 
-    /// What stands at the front of these bytes, and the bytes after it.
-    ghost at: { List ℕ → Option (Self × List ℕ) };
+    /// What stands at the front of these bytes of a journal of this version, and the bytes after it.
+    ghost at: { Version → List ℕ → Option (Self × List ℕ) };
 
     /// How many bytes it has at least.
     ghost least: { ℕ };
 
     /// Reads one from the front. What owns memory takes it of this allocator.
-    fn read(alloc: A, bytes: &[u8]) -> Result<(Self, &[u8]), ReadError>
-        ensures { Gives (λ x. (x.0, x.1.now)) result (at bytes.now) };
+    fn read(alloc: A, version: Version, bytes: &[u8]) -> Result<(Self, &[u8]), ReadError>
+        ensures { Gives (λ x. (x.0, x.1.now)) result (at version bytes.now) };
 
     /// How many bytes it has at least.
     fn least() -> usize
@@ -30,11 +32,12 @@ pub trait Element<A: Allocator>: Sized + Drop {
 // So many of them. Where the bytes are too few for them, it takes no memory.
 fn many_at<A: Allocator + Copy, T: Element<A>>(
     alloc: A,
+    version: Version,
     count: usize,
     bytes: &[u8],
 ) -> Result<(Vec<T, A>, &[u8]), ReadError>
-    requires { TakesLeast T.at T.least }
-    ensures read { Gives (λ x. (x.0.items, x.1.now)) result (many_at T.at count bytes.now) }
+    requires { TakesLeast (T.at version) T.least }
+    ensures read { Gives (λ x. (x.0.items, x.1.now)) result (many_at (T.at version) count bytes.now) }
     ensures memory { OnMemory result (count * T.least ≤ length bytes.now) }
 {
     if bytes.len() / T::least() < count {
@@ -43,7 +46,7 @@ fn many_at<A: Allocator + Copy, T: Element<A>>(
     let mut elements = Vec::with_capacity(alloc, count)?;
     let mut rest = bytes;
     for _ in 0..count {
-        let (element, after) = T::read(alloc, rest)?;
+        let (element, after) = T::read(alloc, version, rest)?;
         elements.push(element)?;
         rest = after;
     }
@@ -54,11 +57,12 @@ fn many_at<A: Allocator + Copy, T: Element<A>>(
 #[tactic(auto, unfolding(crate::specs::HeadReading::counted_at))]
 pub fn counted_at<A: Allocator + Copy, T: Element<A>>(
     alloc: A,
+    version: Version,
     bytes: &[u8],
 ) -> Result<(Vec<T, A>, &[u8]), ReadError>
-    requires { TakesLeast T.at T.least }
-    ensures { Gives (λ x. (x.0.items, x.1.now)) result (counted_at T.at bytes.now) }
+    requires { TakesLeast (T.at version) T.least }
+    ensures { Gives (λ x. (x.0.items, x.1.now)) result (counted_at (T.at version) bytes.now) }
 {
     let (count, rest) = u16_at(bytes)?;
-    many_at(alloc, usize::from(count), rest)
+    many_at(alloc, version, usize::from(count), rest)
 }

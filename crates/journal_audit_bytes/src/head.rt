@@ -3,27 +3,26 @@
 ghost use Rattle.std.specs.Prelude.{◌≡◌, ◌++◌, List, ℕ, Some, IfOk};
 ghost use Rattle.iofd_words.specs.Settings.{Settings};
 ghost use Rattle.journal_audit_bytes.specs.Head.{SpellsHead};
-ghost use Rattle.journal_audit_bytes.specs.HeadReading.{behind_mark, device_at, head_at, limit_at, span_at};
-ghost use Rattle.journal_audit_bytes.specs.HeadReading.{user_at, width_at, x86_at};
+ghost use Rattle.journal_audit_bytes.specs.HeadReading.{device_at, head_at, limit_at, span_at};
+ghost use Rattle.journal_audit_bytes.specs.HeadReading.{user_at, version_at, width_at, x86_at};
 ghost use Rattle.journal_audit_bytes.specs.Reading.{Gives};
+ghost use Rattle.journal_audit_bytes.specs.declared.version.Version.{Version};
 
 use crate::counted::{Element, counted_at};
 use crate::numbers::{u8_at, u16_at, u32_at, u64_at};
 use crate::spelled::ReadError;
+use crate::version::Version;
 use iofd_words::{Config, DeviceConfig, SourceId, Span, SpanList, UserNo, Width};
 use std::alloc::Allocator;
 
-/// The first bytes of a journal.
-pub const MARK: &[u8; 8] = b"IOFDJNL1";
-
 // The limit of a user's pinned pages.
 impl<A: Allocator> Element<A> for u64 {
-    ghost at = { limit_at };
+    ghost at = { λ _. limit_at };
 
     ghost least = { 8 };
 
     #[tactic(auto, unfolding(crate::specs::HeadReading::limit_at))]
-    fn read(_alloc: A, bytes: &[u8]) -> Result<(u64, &[u8]), ReadError> {
+    fn read(_alloc: A, _version: Version, bytes: &[u8]) -> Result<(u64, &[u8]), ReadError> {
         u64_at(bytes)
     }
 
@@ -34,12 +33,12 @@ impl<A: Allocator> Element<A> for u64 {
 
 // The user of a file.
 impl<A: Allocator> Element<A> for UserNo {
-    ghost at = { user_at };
+    ghost at = { λ _. user_at };
 
     ghost least = { 2 };
 
     #[tactic(auto, unfolding(crate::specs::HeadReading::user_at))]
-    fn read(_alloc: A, bytes: &[u8]) -> Result<(UserNo, &[u8]), ReadError> {
+    fn read(_alloc: A, _version: Version, bytes: &[u8]) -> Result<(UserNo, &[u8]), ReadError> {
         let (user, rest) = u16_at(bytes)?;
         Ok((UserNo(user), rest))
     }
@@ -51,12 +50,12 @@ impl<A: Allocator> Element<A> for UserNo {
 
 // A reserved span of a device.
 impl<A: Allocator> Element<A> for Span {
-    ghost at = { span_at };
+    ghost at = { λ _. span_at };
 
     ghost least = { 16 };
 
     #[tactic(auto, unfolding(crate::specs::HeadReading::span_at))]
-    fn read(_alloc: A, bytes: &[u8]) -> Result<(Span, &[u8]), ReadError> {
+    fn read(_alloc: A, _version: Version, bytes: &[u8]) -> Result<(Span, &[u8]), ReadError> {
         let (first, rest) = u64_at(bytes)?;
         let (last, rest) = u64_at(rest)?;
         match Span::new(first, last) {
@@ -76,11 +75,15 @@ impl<A: Allocator + Copy> Element<A> for DeviceConfig<A> {
     ghost least = { 6 };
 
     #[tactic(auto, unfolding(crate::specs::HeadReading::device_at))]
-    fn read(alloc: A, bytes: &[u8]) -> Result<(DeviceConfig<A>, &[u8]), ReadError> {
+    fn read(
+        alloc: A,
+        version: Version,
+        bytes: &[u8],
+    ) -> Result<(DeviceConfig<A>, &[u8]), ReadError> {
         let (source, rest) = u16_at(bytes)?;
-        let (width, rest) = width_at(rest)?;
+        let (width, rest) = width_at(version, rest)?;
         let (x86, rest) = x86_at(rest)?;
-        let (reserved, rest) = counted_at(alloc, rest)?;
+        let (reserved, rest) = counted_at(alloc, version, rest)?;
         let device = DeviceConfig::new(SourceId(source), width, x86, SpanList::new(reserved));
         Ok((device, rest))
     }
@@ -92,14 +95,13 @@ impl<A: Allocator + Copy> Element<A> for DeviceConfig<A> {
 
 // The width of a device's addresses.
 #[tactic(auto, unfolding(crate::specs::HeadReading::width_at))]
-fn width_at(bytes: &[u8]) -> Result<(Width, &[u8]), ReadError>
-    ensures { Gives (λ x. (x.0, x.1.now)) result (width_at bytes.now) }
+fn width_at(version: Version, bytes: &[u8]) -> Result<(Width, &[u8]), ReadError>
+    ensures { Gives (λ x. (x.0, x.1.now)) result (width_at version bytes.now) }
 {
     let (bits, rest) = u8_at(bytes)?;
-    match bits {
-        39 => Ok((Width::Bits39, rest)),
-        48 => Ok((Width::Bits48, rest)),
-        _ => Err(ReadError::Torn),
+    match version.width_of(bits) {
+        Some(width) => Ok((width, rest)),
+        None => Err(ReadError::Torn),
     }
 }
 
@@ -116,48 +118,57 @@ fn x86_at(bytes: &[u8]) -> Result<(bool, &[u8]), ReadError>
     }
 }
 
-// The bytes behind the mark.
-#[tactic(auto, unfolding(crate::specs::HeadReading::behind_mark))]
-fn behind_mark(bytes: &[u8]) -> Result<&[u8], ReadError>
-    ensures { Gives (λ rest. rest.now) result (behind_mark bytes.now) }
+// The version whose mark stands at the front, and the bytes behind it.
+#[tactic(auto, unfolding(crate::specs::HeadReading::version_at))]
+fn version_at(bytes: &[u8]) -> Result<(Version, &[u8]), ReadError>
+    ensures { Gives (λ x. (x.0, x.1.now)) result (version_at bytes.now) }
 {
-    match bytes.strip_prefix(MARK) {
-        Some(rest) => Ok(rest),
+    if let Some(rest) = bytes.strip_prefix(Version::One.mark()) {
+        return Ok((Version::One, rest));
+    }
+    match bytes.strip_prefix(Version::Two.mark()) {
+        Some(rest) => Ok((Version::Two, rest)),
         None => Err(ReadError::Torn),
     }
 }
 
 #[tactic(auto, unfolding(crate::specs::HeadReading::head_at, crate::specs::HeadReading::settings_if))]
-fn head_at<A: Allocator + Copy>(alloc: A, bytes: &[u8]) -> Result<(Config<A>, &[u8]), ReadError>
-    ensures { Gives (λ x. (x.0, x.1.now)) result (head_at bytes.now) }
+fn head_at<A: Allocator + Copy>(
+    alloc: A,
+    bytes: &[u8],
+) -> Result<(Version, Config<A>, &[u8]), ReadError>
+    ensures { Gives (λ x. (x.0, x.1, x.2.now)) result (head_at bytes.now) }
 {
-    let rest = behind_mark(bytes)?;
+    let (version, rest) = version_at(bytes)?;
     let (pool, rest) = u32_at(rest)?;
-    let (users, rest) = counted_at(alloc, rest)?;
-    let (files, rest) = counted_at(alloc, rest)?;
-    let (devices, rest) = counted_at(alloc, rest)?;
+    let (users, rest) = counted_at(alloc, version, rest)?;
+    let (files, rest) = counted_at(alloc, version, rest)?;
+    let (devices, rest) = counted_at(alloc, version, rest)?;
     let (passes, rest) = u16_at(rest)?;
     match Config::new(pool, users, files, devices, passes) {
-        Ok(config) => Ok((config, rest)),
+        Ok(config) => Ok((version, config, rest)),
         Err(_) => Err(ReadError::Torn),
     }
 }
 
-/// The configuration that the head at the front of the bytes says, and the bytes after it. The error is Torn where the
-/// bytes begin with no head: they don't begin with the mark, end within the head, or a width, an x86 mark or a limit of
-/// a configuration is broken. It is Memory where the memory for a list was refused; a list for which the bytes are too
-/// few takes none.
+/// The version and the configuration that the head at the front of the bytes says, and the bytes after it. The error is
+/// Torn where the bytes begin with no head of either version: they begin with neither mark, end within the head, or a
+/// width of the version, an x86 mark or a limit of a configuration is broken. It is Memory where the memory for a list
+/// was refused; a list for which the bytes are too few takes none.
 pub fn read_head<A: Allocator + Copy>(
     alloc: A,
     bytes: &[u8],
-) -> Result<(Config<A>, &[u8]), ReadError>
+) -> Result<(Version, Config<A>, &[u8]), ReadError>
     // What is read is spelled so.
-    ensures found { IfOk result (λ x. (text : List ℕ) × SpellsHead x.0 text × (bytes.now ≡ text ++ x.1.now)) }
+    ensures found { IfOk result
+        (λ x. (text : List ℕ) × SpellsHead x.0 x.1 text × (bytes.now ≡ text ++ x.2.now)) }
     // What is spelled so is read, unless memory was refused: the bytes are torn only where they begin with no head.
-    ensures only { (s : Settings) (text rest : List ℕ) → SpellsHead s text → bytes.now ≡ text ++ rest →
-        Gives {Y = Settings × List ℕ} (λ x. (x.0, x.1.now)) result (Some (s, rest)) }
-    // A head has one spelling.
-    ensures one { (s : Settings) (a b : List ℕ) → SpellsHead s a → SpellsHead s b → a ≡ b }
+    ensures only { (version : Version) (s : Settings) (text rest : List ℕ) → SpellsHead version s text →
+        bytes.now ≡ text ++ rest →
+        Gives {Y = Version × Settings × List ℕ} (λ x. (x.0, x.1, x.2.now)) result (Some (version, s, rest)) }
+    // A head of a version has one spelling.
+    ensures one { (version : Version) (s : Settings) (a b : List ℕ) → SpellsHead version s a →
+        SpellsHead version s b → a ≡ b }
 {
     head_at(alloc, bytes)
 }

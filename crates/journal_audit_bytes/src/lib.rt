@@ -10,8 +10,10 @@ mod reading;
 mod replies;
 mod spelled;
 mod steps;
+mod version;
 
-pub use head::{MARK, read_head};
+pub use head::read_head;
 pub use reading::read_record;
 pub use replies::{fault_of, typed_reply};
 pub use spelled::{ReadError, SpelledRecord, SpelledReply};
+pub use version::Version;

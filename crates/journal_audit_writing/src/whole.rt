@@ -2,6 +2,7 @@
 
 ghost use Rattle.std.specs.Prelude.{◌≡◌, ◌++◌, List, ℕ, IfOk, OnOk};
 ghost use Rattle.journal_audit_bytes.specs.Journal.{IsFirstUnspelt, IsJournal, SpellRecords};
+ghost use Rattle.journal_audit_bytes.specs.declared.version.Version.TheVariants.{Two};
 ghost use Rattle.journal_audit_writing.specs.Failing.{OnUnspeltAt};
 
 use crate::head::write_head;
@@ -38,15 +39,15 @@ fn write_records<A: Allocator, B: Allocator, C: Allocator>(
     Ok(())
 }
 
-/// The journal of these records of a server of this configuration, in memory of this allocator: the bytes of its head,
-/// and of each record in turn. The error says which record is the first that has no spelling, or that memory was
-/// refused.
+/// The journal, of version 2, of these records of a server of this configuration, in memory of this allocator: the
+/// bytes of its head, and of each record in turn. The error says which record is the first that has no spelling, or
+/// that memory was refused.
 pub fn journal<A: Allocator, B: Allocator, C: Allocator>(
     alloc: A,
     config: &Config<B>,
     records: &[Record<C>],
 ) -> Result<Vec<u8, A>, JournalError>
-    ensures ok { IfOk result (λ bytes. IsJournal config.now records.now bytes.items) }
+    ensures ok { IfOk result (λ bytes. IsJournal Two config.now records.now bytes.items) }
     ensures unspelt { OnUnspeltAt result (λ index. IsFirstUnspelt config.now records.now index) }
 {
     let mut bytes = Vec::new(alloc);

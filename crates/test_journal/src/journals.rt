@@ -1,6 +1,6 @@
 //! Journals that are written: the example of the format, each kind of event once, and records that have no spelling.
 
-use crate::heads::{LARGE, SMALL};
+use crate::heads::{LARGE, SMALL, behind_head};
 use crate::records::RECORDS;
 use iofd_words::{
     AccessKind, Burst, Config, CopyRequest, DeviceNo, Event, Fault, FaultReason, FileNo, FrameList,
@@ -80,7 +80,7 @@ fn records_of<A: Allocator + Copy, B: Allocator>(
     None
 }
 
-// Whether the journal of these records is this head and these records.
+// Whether the journal of these records is this head, but with version 2's mark, and these records.
 fn is_journal<A: Allocator + Copy, B: Allocator>(
     alloc: A,
     config: &Config<B>,
@@ -89,12 +89,12 @@ fn is_journal<A: Allocator + Copy, B: Allocator>(
     behind: &[u8],
 ) -> bool {
     match journal(alloc, config, records) {
-        Ok(bytes) => bytes.as_slice().strip_prefix(head) == Some(behind),
+        Ok(bytes) => behind_head(bytes.as_slice(), head) == Some(behind),
         Err(_) => false,
     }
 }
 
-// Whether what these bytes tell, so many records behind a head, is written as the same bytes again.
+// Whether what these bytes tell, so many records behind a head of version 1, is written as the same in version 2.
 fn is_written_again<A: Allocator + Copy>(
     alloc: A,
     head: &[u8],
@@ -102,7 +102,7 @@ fn is_written_again<A: Allocator + Copy>(
     count: usize,
 ) -> bool {
     match read_head(alloc, head) {
-        Ok((config, _)) => match records_of(alloc, &config, behind) {
+        Ok((_, config, _)) => match records_of(alloc, &config, behind) {
             Some(records) => {
                 records.len() == count
                     && is_journal(alloc, &config, records.as_slice(), head, behind)
@@ -250,7 +250,7 @@ fn is_case_spelt<A: Allocator + Copy, B: Allocator>(
 // Whether of the cases just those from the tenth on are spelled.
 fn are_cases<A: Allocator + Copy>(alloc: A) -> bool {
     match read_head(alloc, LARGE) {
-        Ok((config, _)) => CASES.iter().enumerate().all(|(number, case)| is_case_spelt(
+        Ok((_, config, _)) => CASES.iter().enumerate().all(|(number, case)| is_case_spelt(
             alloc, &config, case,
         ) == Some(number >= 10)),
         Err(_) => false,
@@ -277,7 +277,7 @@ fn is_told<A: Allocator + Copy, B: Allocator>(alloc: A, config: &Config<B>) -> O
 
 fn is_first_told<A: Allocator + Copy>(alloc: A) -> bool {
     match read_head(alloc, SMALL) {
-        Ok((config, _)) => is_told(alloc, &config) == Some(true),
+        Ok((_, config, _)) => is_told(alloc, &config) == Some(true),
         Err(_) => false,
     }
 }

@@ -35,9 +35,10 @@ const NOT_3: Verdict = Verdict::NotRun { index: 3 };
 // What the journal is with another byte, by the grammar of journals and the rules of these events: offsets from one to
 // another, the values there from one to another, each so many, and the verdict. The last row that fits decides, and the
 // journal's own bytes aren't asked for.
-static VERDICTS: [(usize, usize, u8, u8, u8, Verdict); 117] = [
-    // Head: the mark.
+static VERDICTS: [(usize, usize, u8, u8, u8, Verdict); 118] = [
+    // Head: the mark, which may be version 2's.
     (0, 7, 0, 255, 1, NO_HEAD),
+    (7, 7, 0x32, 0x32, 1, RUN),
     // The size of the pool: from 1 to 4096 frames, of which one is enough.
     (8, 8, 0, 255, 1, RUN),
     (8, 8, 0, 0, 1, NO_HEAD),

@@ -1,10 +1,10 @@
 //! The example of the journals' page: a user is given two pages.
 
 use journal_audit::{Verdict, audit};
-use std::alloc::Allocator;
+use std::alloc::{AllocError, Allocator};
 
-/// A pool of two frames, a user with a limit of one page, a file of this user, no device, one pass; then two records: a
-/// UserMap of user 1 at 0x10000 that was answered frame 0, and one at 0x11000 that was answered frame 1.
+/// Of version 1: a pool of two frames, a user with a limit of one page, a file of this user, no device, one pass; then
+/// two records: a UserMap of user 1 at 0x10000 that was answered frame 0, and one at 0x11000 that was answered frame 1.
 pub const EXAMPLE: [u8; 74] = *b"IOFDJNL1\x02\0\0\0\x01\0\x01\0\0\0\0\0\0\0\x01\0\x01\0\0\0\x01\0\
       \0\0\x02\x01\0\0\0\x01\0\0\0\0\0\x05\0\0\0\0\0\0\0\0\
       \0\0\x02\x01\0\0\x10\x01\0\0\0\0\0\x05\x01\0\0\0\0\0\0\0";
@@ -13,6 +13,23 @@ pub const EXAMPLE: [u8; 74] = *b"IOFDJNL1\x02\0\0\0\x01\0\x01\0\0\0\0\0\0\0\x01\
 pub fn says<A: Allocator + Copy>(alloc: A, bytes: &[u8], verdict: Verdict) -> bool {
     match audit(alloc, bytes) {
         Ok(said) => said == verdict,
+        Err(_) => false,
+    }
+}
+
+/// Bytes of version 1 with version 2's mark.
+pub fn in_version_2<A: Allocator>(alloc: A, bytes: &[u8]) -> Result<Vec<u8, A>, AllocError> {
+    let mut altered = Vec::from_slice(alloc, bytes)?;
+    if altered.len() > 7 {
+        altered[7] = b'2';
+    }
+    Ok(altered)
+}
+
+/// Whether an auditor says this of these bytes of version 1, and of the same with version 2's mark.
+pub fn says_of_both<A: Allocator + Copy>(alloc: A, bytes: &[u8], verdict: Verdict) -> bool {
+    match in_version_2(alloc, bytes) {
+        Ok(altered) => { says(alloc, bytes, verdict) && says(alloc, altered.as_slice(), verdict) }
         Err(_) => false,
     }
 }
@@ -42,7 +59,7 @@ fn verdict_of_cut(end: usize) -> Verdict {
 fn cuts_are_torn_or_runs(rt: HostRuntime) {
     for end in 0..=74 {
         assert!(rt;
-            says(rt.alloc(), &EXAMPLE[..end], verdict_of_cut(end)),
+            says_of_both(rt.alloc(), &EXAMPLE[..end], verdict_of_cut(end)),
             "{end}"
         );
     }
@@ -71,7 +88,7 @@ static ALTERED: [(usize, u8, Verdict); 12] = [
 // Whether an auditor says so of a case.
 fn is_said<A: Allocator + Copy>(alloc: A, case: &(usize, u8, Verdict)) -> bool {
     let (offset, byte, verdict) = *case;
-    says(alloc, &altered(offset, byte), verdict)
+    says_of_both(alloc, &altered(offset, byte), verdict)
 }
 
 #[test]

@@ -1,6 +1,6 @@
 //! A journal whose second event is refused: a user is given the same page twice.
 
-use crate::example::says;
+use crate::example::says_of_both;
 use journal_audit::Verdict;
 
 // The head and the first record of the example; then the same UserMap again, refused as Overlap, number 9.
@@ -17,7 +17,7 @@ fn refused_by(number: u8) -> [u8; 71] {
 
 #[test]
 fn refusals_are_told(rt: HostRuntime) {
-    assert!(rt; says(rt.alloc(), TWICE, Verdict::Run { records: 2 }));
-    assert!(rt; says(rt.alloc(), &refused_by(10), Verdict::NotRun { index: 1 }));
-    assert!(rt; says(rt.alloc(), &TWICE[..70], Verdict::Torn { offset: 52 }));
+    assert!(rt; says_of_both(rt.alloc(), TWICE, Verdict::Run { records: 2 }));
+    assert!(rt; says_of_both(rt.alloc(), &refused_by(10), Verdict::NotRun { index: 1 }));
+    assert!(rt; says_of_both(rt.alloc(), &TWICE[..70], Verdict::Torn { offset: 52 }));
 }

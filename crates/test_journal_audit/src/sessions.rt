@@ -1,12 +1,12 @@
 //! Journals of sessions, worked by hand from the rules: each begins with its head, and has a line a record.
 
-use crate::example::says;
+use crate::example::says_of_both;
 use journal_audit::Verdict;
 use std::alloc::Allocator;
 
-// Journals, and what each is. Most have the head of the first: a pool of sixteen frames, users with limits of 8 and 2
-// pages, two files of user 1 and one of user 2, an x86 device 0x0010 of width 39, a device 0x0018 of width 39, a device
-// 0x0100 of width 48, one pass.
+// Journals of version 1, and what each is. Most have the head of the first: a pool of sixteen frames, users with limits
+// of 8 and 2 pages, two files of user 1 and one of user 2, an x86 device 0x0010 of width 39, a device 0x0018 of width
+// 39, a device 0x0100 of width 48, one pass.
 static JOURNALS: [(&[u8], Verdict); 34] = [
     // No record: a command that was too short, or that isn't served.
     (
@@ -556,10 +556,10 @@ static JOURNALS: [(&[u8], Verdict); 34] = [
     ),
 ];
 
-/// Whether an auditor says this of the journal with this hex text.
+/// Whether an auditor says this of the journal of version 1 with this hex text, and of the same in version 2.
 pub fn is_said<A: Allocator + Copy>(alloc: A, text: &[u8], verdict: Verdict) -> bool {
     match hex::decode(alloc, text) {
-        Ok(bytes) => says(alloc, bytes.as_slice(), verdict),
+        Ok(bytes) => says_of_both(alloc, bytes.as_slice(), verdict),
         Err(_) => false,
     }
 }

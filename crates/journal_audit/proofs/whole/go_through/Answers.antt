@@ -6,8 +6,8 @@ use Rattle.journal_audit.proofs.whole.go_through.Goals as goal
 
 pub loop-rest-init : goal.loop-rest-init
 loop-rest-init g c =
-    let (text, head, is) = c.requires.head in
-    started c.args.bytes.now c.args.world.now.settings c.args.records.now c.args.world.now text head is
+    let (version, text, head, is) = c.requires.head in
+    started c.args.bytes.now version c.args.world.now.settings c.args.records.now c.args.world.now text head is
     c.requires.opening
 
 pub read_next-requires : goal.read_next-requires

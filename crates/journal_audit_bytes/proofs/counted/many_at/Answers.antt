@@ -9,25 +9,26 @@ pub returns-then-bytes-least-clause-read : goal.returns-then-bytes-least-clause-
 returns-then-bytes-least-clause-read g c =
     let few : length c.args.bytes.now / g.T.Element.least < c.args.count =
     rw (← c.least.ensures) c.if-bytes-least.true in
-    too_few g.T.Element.at g.T.Element.least c.requires c.args.count c.args.bytes.now few
+    too_few (g.T.Element.at c.args.version) g.T.Element.least c.requires c.args.count c.args.bytes.now few
 
 pub returns-in_err-element-clause-read : goal.returns-in_err-element-clause-read
 returns-in_err-element-clause-read g c =
     let p = err_from_is_err_and c.from_residual-in_err-element.result c.from_residual-in_err-element.ensures.1 in
-    rw (p.1, p.2) (ends_by g.T.Element.at c.in_err-element.field-0.0 c.loop.elements.items c.args.count
-    c.loop.counter c.loop.rest.now (many_at g.T.Element.at c.args.count c.args.bytes.now) c.loop-test.true
-    c.in_err-element.ensures c.loop.invariant)
+    rw (p.1, p.2) (ends_by (g.T.Element.at c.args.version) c.in_err-element.field-0.0 c.loop.elements.items c.args.count
+    c.loop.counter c.loop.rest.now (many_at (g.T.Element.at c.args.version) c.args.count c.args.bytes.now)
+    c.loop-test.true c.in_err-element.ensures c.loop.invariant)
 
 pub loop-preserved : goal.loop-preserved
 loop-preserved g c =
-    rw c.in_ok-push.ensures.items (goes_on g.T.Element.at c.loop.elements.items c.args.count c.loop.counter
-    c.loop.rest.now c.in_ok-element.element c.in_ok-element.after.now
-    (many_at g.T.Element.at c.args.count c.args.bytes.now) c.loop-test.true c.in_ok-element.ensures c.loop.invariant)
+    rw c.in_ok-push.ensures.items (goes_on (g.T.Element.at c.args.version) c.loop.elements.items c.args.count
+    c.loop.counter c.loop.rest.now c.in_ok-element.element c.in_ok-element.after.now
+    (many_at (g.T.Element.at c.args.version) c.args.count c.args.bytes.now) c.loop-test.true c.in_ok-element.ensures
+    c.loop.invariant)
 
 pub returns-clause-read : goal.returns-clause-read
 returns-clause-read g c =
-    is_done g.T.Element.at c.loop.elements.items c.args.count c.loop.counter c.loop.rest.now
-    (many_at g.T.Element.at c.args.count c.args.bytes.now) c.loop-test.false c.loop.invariant
+    is_done (g.T.Element.at c.args.version) c.loop.elements.items c.args.count c.loop.counter c.loop.rest.now
+    (many_at (g.T.Element.at c.args.version) c.args.count c.args.bytes.now) c.loop-test.false c.loop.invariant
 
 pub returns-in_err-element-clause-memory : goal.returns-in_err-element-clause-memory
 returns-in_err-element-clause-memory g c =

@@ -11,7 +11,7 @@ pub counted_at-requires-2 : goal.counted_at-requires-2
 counted_at-requires-2 g c = user_least
 
 pub counted_at-requires-3 : goal.counted_at-requires-3
-counted_at-requires-3 g c = device_least
+counted_at-requires-3 g c = device_least c.in_ok-version.version
 
 pub returns-in-Ok : goal.returns-in-Ok
 returns-in-Ok g c =
@@ -22,10 +22,11 @@ returns-in-Ok g c =
       devices = c.in_ok-devices.devices.items;
       passes = c.in_ok-passes.passes;
     } in
-    head_by s c.args.bytes.now c.in_ok-rest.rest.now c.in_ok-pool.rest.now c.in_ok-users.rest.now
-    c.in_ok-files.rest.now c.in_ok-devices.rest.now c.in_ok-passes.rest.now c.in_ok-rest.ensures c.in_ok-pool.ensures
+    head_by c.in_ok-version.version s c.args.bytes.now c.in_ok-version.rest.now c.in_ok-pool.rest.now
+    c.in_ok-users.rest.now c.in_ok-files.rest.now c.in_ok-devices.rest.now c.in_ok-passes.rest.now
+    c.in_ok-version.ensures c.in_ok-pool.ensures
     c.in_ok-users.ensures c.in_ok-files.ensures c.in_ok-devices.ensures c.in_ok-passes.ensures
-    ∙ opened_if s c.in_ok-passes.rest.now c.in-Ok.config (sym c.in-Ok.ensures)
+    ∙ opened_if c.in_ok-version.version s c.in_ok-passes.rest.now c.in-Ok.config (sym c.in-Ok.ensures)
 
 pub returns-in-Err : goal.returns-in-Err
 returns-in-Err g c =
@@ -36,7 +37,8 @@ returns-in-Err g c =
       devices = c.in_ok-devices.devices.items;
       passes = c.in_ok-passes.passes;
     } in
-    head_by s c.args.bytes.now c.in_ok-rest.rest.now c.in_ok-pool.rest.now c.in_ok-users.rest.now
-    c.in_ok-files.rest.now c.in_ok-devices.rest.now c.in_ok-passes.rest.now c.in_ok-rest.ensures c.in_ok-pool.ensures
+    head_by c.in_ok-version.version s c.args.bytes.now c.in_ok-version.rest.now c.in_ok-pool.rest.now
+    c.in_ok-users.rest.now c.in_ok-files.rest.now c.in_ok-devices.rest.now c.in_ok-passes.rest.now
+    c.in_ok-version.ensures c.in_ok-pool.ensures
     c.in_ok-users.ensures c.in_ok-files.ensures c.in_ok-devices.ensures c.in_ok-passes.ensures
-    ∙ not_opened_if s c.in_ok-passes.rest.now c.in-Err.field-0 (sym c.in-Err.ensures)
+    ∙ not_opened_if c.in_ok-version.version s c.in_ok-passes.rest.now c.in-Err.field-0 (sym c.in-Err.ensures)

@@ -1,9 +1,11 @@
-use Rattle.std.proofs.Common.{◌≡◌, ◌^◌, ◌<◌, ◌++◌, length, refl, arith}
+use Rattle.std.proofs.Common.{◌≡◌, ◌^◌, ◌<◌, ◌++◌, ◌∙◌, List, ℕ, length, refl, ap, arith}
 use Rattle.std.proofs.lemmas.Result.{err_from_is_err_and}
 use Rattle.std.specs.Int.{w16, w32, to_le_bytes}
 use Rattle.std.specs.List.{AllByRecursion}
 use Rattle.journal_audit_bytes.specs.Head.{CountedFit, DeviceFits, LimitFits, UserFits, all_spelled, counted}
-use Rattle.journal_audit_bytes.specs.Head.{device_spelled, limit_spelled, mark, user_spelled}
+use Rattle.journal_audit_bytes.specs.Head.{device_spelled, limit_spelled, user_spelled}
+use Rattle.journal_audit_bytes.specs.Version.{mark}
+use Rattle.journal_audit_bytes.specs.declared.version.Version.TheVariants.{Two}
 use Rattle.journal_audit_writing.specs.Writing.{Appends, Keeps}
 use Rattle.journal_audit_writing.proofs.Appended.{keeps_then}
 use Rattle.journal_audit_writing.proofs.Limited.{within}
@@ -46,6 +48,8 @@ returns-in_err-spell_devices-clause-bytes g c =
 pub returns-clause-bytes : goal.returns-clause-bytes
 returns-clause-bytes g c =
     let s = c.args.config.now in
+    let marked : c.put.new.out.items ≡ c.args.out.now.items ++ mark Two =
+    c.in_ok-put.ensures ∙ ap (λ (bytes : List ℕ). c.args.out.now.items ++ bytes) c.mark.ensures in
     let pool : c.spell.new.out.items ≡ c.put.new.out.items ++ to_le_bytes w32 s.pool =
     rw (← c.pool-pool.ensures.value) c.in_ok-spell.ensures.bytes in
     let users : c.spell_counted.new.out.items ≡ c.spell.new.out.items ++ counted limit_spelled s.users =
@@ -61,9 +65,9 @@ returns-clause-bytes g c =
     rw (← c.passes-passes.ensures) c.spell-3.ensures.bytes in
     head_appended c.spell-3.result c.args.out.now.items c.put.new.out.items c.spell.new.out.items
     c.spell_counted.new.out.items c.spell_counted-2.new.out.items c.spell-2.new.out.items c.spell_devices.new.out.items
-    c.spell-3.new.out.items mark (to_le_bytes w32 s.pool) (counted limit_spelled s.users)
+    c.spell-3.new.out.items (mark Two) (to_le_bytes w32 s.pool) (counted limit_spelled s.users)
     (counted user_spelled s.files) (to_le_bytes w16 (length s.devices)) (all_spelled device_spelled s.devices)
-    (to_le_bytes w16 s.passes) c.in_ok-put.ensures pool users files count devices passes
+    (to_le_bytes w16 s.passes) marked pool users files count devices passes
 
 pub returns-clause-spells : goal.returns-clause-spells
 returns-clause-spells g c =
@@ -72,7 +76,7 @@ returns-clause-spells g c =
     let pool : s.pool < 2 ^ 32 = rw (← c.pool-pool.ensures.value) c.in_ok-spell.ensures.fits in
     let users : CountedFit LimitFits s.users = rw (← c.users.ensures) c.in_ok-spell_counted.ensures.fits in
     let files : CountedFit UserFits s.files = rw (← c.files.ensures) c.in_ok-spell_counted-2.ensures.fits in
-    let devices : AllByRecursion (λ device. DeviceFits device) s.devices =
+    let devices : AllByRecursion (λ device. DeviceFits Two device) s.devices =
     rw (← c.devices-devices.ensures) c.in_ok-spell_devices.ensures.fits in
     let passes : s.passes < 2 ^ 16 = rw (← c.passes-passes.ensures) c.spell-3.ensures.fits in
     always_ok c.spell-3.result (record {
