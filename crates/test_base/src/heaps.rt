@@ -1,6 +1,6 @@
 //! Want of memory: what takes some, in a heap.
 
-use crate::{frames, objects, pins};
+use crate::{dirty, frames, objects, pins};
 use linked_list_allocator::LocalHeap;
 use std::alloc::Global;
 
@@ -20,4 +20,11 @@ fn pins_take_memory(rt: HostRuntime) {
 #[test]
 fn pages_and_objects_take_memory(rt: HostRuntime) {
     assert!(rt; come_again(rt.alloc()));
+}
+
+#[test]
+fn marks_take_memory(rt: HostRuntime) {
+    assert!(rt;
+        dirty::comes_once_there_is_memory(rt.alloc()) && dirty::want_for_memory(rt.alloc())
+    );
 }

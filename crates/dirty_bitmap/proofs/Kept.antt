@@ -1,0 +1,205 @@
+-- Marks in their words: what a word's bits say, and what becomes of them.
+use Rattle.std.proofs.Common.{◌≡◌, ℕ, ◌+◌, ◌-◌, ◌*◌, ◌/◌, ◌%◌, ◌^◌, ◌<◌, ◌≤◌, Bool, true, false, cond, not, ◌&&◌, ◌||◌}
+use Rattle.std.proofs.Common.{eqb, ltb, leb, refl, sym, ap, ◌∙◌, arith, ⊎_elim}
+use Rattle.std.specs.Int.{bit_not, w64}
+use Rattle.std.specs.Int.RustNames.{bit_and, bit_or}
+use Rattle.std.proofs.lemmas.Bool.{cases_lt, eqb-true, le-leb, le-ltb, lt-leb, lt-ltb}
+use Rattle.std.proofs.lemmas.Bool.Decides.{nat_tests}
+use Rattle.dirty_bitmap.specs.Marks.{Words, has_bit, is_marked, word_at}
+use Rattle.dirty_bitmap.proofs.WordBits.{has_bit-above, has_bit-and, has_bit-not, has_bit-or, has_bit-shl_high}
+use Rattle.dirty_bitmap.proofs.WordBits.{has_bit-shl_low, has_bit-shr, has_bit-zero, one_bit}
+
+pub or_false : (b : Bool) → (b || false) ≡ b
+or_false true = refl
+or_false false = refl
+
+pub and_true : (b : Bool) → (b && true) ≡ b
+and_true true = refl
+and_true false = refl
+
+-- ---- 64 pages from any on
+
+same_place : (words : Words) (n k m j : ℕ) → n ≡ m → k ≡ j → has_bit (word_at words n) k ≡ has_bit (word_at words m) j
+same_place words n k m j word_is bit_is =
+    ap (λ i. has_bit (word_at words i) k) word_is ∙ ap (λ i. has_bit (word_at words m) i) bit_is
+
+-- the end of one word and the beginning of the next
+pub both_words : (words : Words) (first k low high : ℕ) → low ≡ word_at words (first / 64)
+    → high ≡ word_at words (first / 64 + 1) → low < 2 ^ 64 → k < 64
+    → has_bit (bit_or (low / 2 ^ (first % 64)) (high * 2 ^ (64 - first % 64) % 2 ^ 64)) k ≡ is_marked words (first + k)
+both_words words first k low high low_is high_is small within =
+    has_bit-or (low / 2 ^ s) (high * 2 ^ (64 - s) % 2 ^ 64) k ∙ ⊎_elim near far (cases_lt (s + k) 64)
+  where
+    s : ℕ
+    s = first % 64
+
+    lower : Bool
+    lower = has_bit (low / 2 ^ s) k
+
+    upper : Bool
+    upper = has_bit (high * 2 ^ (64 - s) % 2 ^ 64) k
+
+    near : first % 64 + k < 64 → (lower || upper) ≡ is_marked words (first + k)
+    near below =
+        ap (λ t. lower || t) (has_bit-shl_low high (64 - s) k within (omega (arith, below)))
+        ∙ or_false lower
+        ∙ has_bit-shr low s k
+        ∙ ap (λ w. has_bit w (s + k)) low_is
+        ∙ same_place words (first / 64) (first % 64 + k) ((first + k) / 64) ((first + k) % 64)
+        (omega (arith, below)) (omega (arith, below))
+
+    far : 64 ≤ first % 64 + k → (lower || upper) ≡ is_marked words (first + k)
+    far above =
+        ap (λ t. t || upper) (has_bit-shr low s k ∙ has_bit-above low (s + k) small above)
+        ∙ has_bit-shl_high high (64 - s) k within (omega (arith, above))
+        ∙ ap (λ w. has_bit w (k - (64 - s))) high_is
+        ∙ same_place words (first / 64 + 1) (k - (64 - first % 64)) ((first + k) / 64) ((first + k) % 64)
+        (omega (arith, above, within)) (omega (arith, above, within))
+
+-- the lowest bits are those of pages up to the last
+pub up_to : (first last k many : ℕ) → many ≡ last + 1 - first → ltb k many ≡ leb (first + k) last
+up_to first last k many is =
+    ⊎_elim
+    (λ (below : k < many). lt-ltb k many below ∙ sym (le-leb (first + k) last (omega (arith, below, is))))
+    (λ (above : many ≤ k). le-ltb k many above ∙ sym (lt-leb (first + k) last (omega (arith, above, is))))
+    (cases_lt k many)
+
+-- ---- a page is marked
+
+pub marked_more : (old new : Words) (page : ℕ)
+    → ((n : ℕ) → word_at new n
+    ≡ cond (eqb (page / 64) n) (bit_or (word_at old n) (1 * 2 ^ (page % 64) % 2 ^ 64)) (word_at old n))
+    → (other : ℕ) → is_marked new other ≡ (is_marked old other || eqb page other)
+marked_more old new page more other =
+    ap (λ w. has_bit w (other % 64)) (more (other / 64)) ∙ by_test (eqb (page / 64) (other / 64)) refl
+  where
+    same_page : eqb (page / 64) (other / 64) ≡ true → eqb (page % 64) (other % 64) ≡ eqb page other
+    same_page is =
+        let word_is : page / 64 ≡ other / 64 = eqb-true (page / 64) (other / 64) is in
+        grind (arith, nat_tests)
+
+    other_page : eqb (page / 64) (other / 64) ≡ false → eqb page other ≡ false
+    other_page is = grind (arith, nat_tests)
+
+    by_test : (b : Bool) → eqb (page / 64) (other / 64) ≡ b
+        → has_bit (cond b (bit_or (word_at old (other / 64)) (1 * 2 ^ (page % 64) % 2 ^ 64)) (word_at old (other / 64)))
+        (other % 64)
+        ≡ (is_marked old other || eqb page other)
+    by_test true is =
+        has_bit-or (word_at old (other / 64)) (1 * 2 ^ (page % 64) % 2 ^ 64) (other % 64)
+        ∙ ap (λ t. is_marked old other || t) (one_bit (page % 64) (other % 64) (omega arith) ∙ same_page is)
+    by_test false is = sym (ap (λ t. is_marked old other || t) (other_page is) ∙ or_false (is_marked old other))
+
+pub unmarked : (words : Words) (page : ℕ) → word_at words (page / 64) ≡ 0 → is_marked words page ≡ false
+unmarked words page none = ap (λ w. has_bit w (page % 64)) none ∙ has_bit-zero (page % 64)
+
+-- ---- marks of one word are taken away
+
+module _ (number first last before behind low high : ℕ) (low_is : low ≡ first - number * 64)
+    (high_is : high ≡ last + 1 - number * 64) (small : behind < 2 ^ 64)
+    (before_is : (k : ℕ) → k < 64 → has_bit before k ≡ ltb k low)
+    (behind_is : (k : ℕ) → k < 64 → has_bit behind k ≡ ltb k high) where
+  kept_bit : (page : ℕ) → number ≡ page / 64
+      → has_bit (bit_or before (bit_not w64 behind)) (page % 64) ≡ not (leb first page && leb page last)
+  kept_bit page is =
+      has_bit-or before (bit_not w64 behind) (page % 64)
+      ∙ ap (λ t. t || has_bit (bit_not w64 behind) (page % 64)) (before_is (page % 64) (omega arith) ∙ below)
+      ∙ ap (λ t. not (leb first page) || t) (has_bit-not behind (page % 64) small (omega arith)
+      ∙ ap not (behind_is (page % 64) (omega arith) ∙ above))
+      ∙ outside (leb first page) (leb page last)
+    where
+      below : ltb (page % 64) low ≡ not (leb first page)
+      below =
+          ⊎_elim
+          (λ (less : page % 64 < low). lt-ltb (page % 64) low less
+          ∙ sym (ap not (lt-leb first page (omega (arith, less, low_is, is)))))
+          (λ (more : low ≤ page % 64). le-ltb (page % 64) low more
+          ∙ sym (ap not (le-leb first page (omega (arith, more, low_is, is)))))
+          (cases_lt (page % 64) low)
+
+      above : ltb (page % 64) high ≡ leb page last
+      above =
+          ⊎_elim
+          (λ (less : page % 64 < high). lt-ltb (page % 64) high less
+          ∙ sym (le-leb page last (omega (arith, less, high_is, is))))
+          (λ (more : high ≤ page % 64). le-ltb (page % 64) high more
+          ∙ sym (lt-leb page last (omega (arith, more, high_is, is))))
+          (cases_lt (page % 64) high)
+
+      outside : (a b : Bool) → (not a || not b) ≡ not (a && b)
+      outside true b = refl
+      outside false b = refl
+
+  pub cleared_word : (old new : Words)
+      → ((n : ℕ) → word_at new n
+      ≡ cond (eqb number n) (bit_and (word_at old n) (bit_or before (bit_not w64 behind))) (word_at old n))
+      → (page : ℕ)
+      → is_marked new page ≡ (is_marked old page && not (eqb number (page / 64) && (leb first page && leb page last)))
+  cleared_word old new keeps page =
+      ap (λ w. has_bit w (page % 64)) (keeps (page / 64)) ∙ by_test (eqb number (page / 64)) refl
+    where
+      keep : ℕ
+      keep = bit_or before (bit_not w64 behind)
+
+      by_test : (b : Bool) → eqb number (page / 64) ≡ b
+          → has_bit (cond b (bit_and (word_at old (page / 64)) keep) (word_at old (page / 64))) (page % 64)
+          ≡ (is_marked old page && not (b && (leb first page && leb page last)))
+      by_test true is =
+          has_bit-and (word_at old (page / 64)) keep (page % 64)
+          ∙ ap (λ t. is_marked old page && t) (kept_bit page (eqb-true number (page / 64) is))
+      by_test false is = sym (and_true (is_marked old page))
+
+-- ---- word by word
+
+-- the page is one of these, in a word before this one
+abbrev pub is_gone : ℕ → ℕ → ℕ → ℕ → Bool
+is_gone first last number page = ltb (page / 64) number && (leb first page && leb page last)
+
+pub none_gone : (first last page : ℕ) → is_gone first last (first / 64) page ≡ false
+none_gone first last page =
+    ⊎_elim
+    (λ (below : page / 64 < first / 64).
+    let before : leb first page ≡ false = lt-leb first page (omega (arith, below)) in
+    ap (λ t. ltb (page / 64) (first / 64) && (t && leb page last)) before ∙ and_false (ltb (page / 64) (first / 64)))
+    (λ (above : first / 64 ≤ page / 64).
+    ap (λ t. t && (leb first page && leb page last)) (le-ltb (page / 64) (first / 64) above))
+    (cases_lt (page / 64) (first / 64))
+  where
+    and_false : (b : Bool) → (b && false) ≡ false
+    and_false true = refl
+    and_false false = refl
+
+pub all_gone : (first last number page : ℕ) → last / 64 + 1 ≤ number
+    → is_gone first last number page ≡ (leb first page && leb page last)
+all_gone first last number page reached =
+    ⊎_elim
+    (λ (below : page / 64 < number). ap (λ t. t && (leb first page && leb page last)) (lt-ltb (page / 64) number below))
+    (λ (above : number ≤ page / 64).
+    let behind : leb page last ≡ false = lt-leb page last (omega (arith, above, reached)) in
+    ap (λ t. ltb (page / 64) number && (leb first page && t)) behind
+    ∙ no_test (ltb (page / 64) number) (leb first page)
+    ∙ sym (ap (λ t. leb first page && t) behind))
+    (cases_lt (page / 64) number)
+  where
+    no_test : (a b : Bool) → (a && (b && false)) ≡ (b && false)
+    no_test true b = refl
+    no_test false true = refl
+    no_test false false = refl
+
+pub more_gone : (first last number page : ℕ) (m : Bool)
+    → ((m && not (is_gone first last number page)) && not (eqb number (page / 64) && (leb first page && leb page last)))
+    ≡ (m && not (is_gone first last (number + 1) page))
+more_gone first last number page m =
+    sorted m (ltb (page / 64) number) (eqb number (page / 64)) (leb first page && leb page last)
+    ∙ ap (λ t. m && not (t && (leb first page && leb page last))) one_more
+  where
+    one_more : (ltb (page / 64) number || eqb number (page / 64)) ≡ ltb (page / 64) (number + 1)
+    one_more = grind (arith, nat_tests)
+
+    sorted : (m a b c : Bool) → ((m && not (a && c)) && not (b && c)) ≡ (m && not ((a || b) && c))
+    sorted false a b c = refl
+    sorted true true true true = refl
+    sorted true true true false = refl
+    sorted true true false true = refl
+    sorted true true false false = refl
+    sorted true false b c = refl

@@ -1,0 +1,4 @@
+pub mod Kept
+pub mod Reports
+pub mod Tracked
+pub mod WordBits

@@ -1,0 +1,3 @@
+pub mod Dirty
+pub mod Marks
+pub mod Tracking
