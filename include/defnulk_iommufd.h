@@ -75,7 +75,7 @@ struct defnulk_outcome {
 /* A device. */
 struct defnulk_device {
     uint16_t source; /* the id by which the IOMMU knows it: bus, device, function */
-    uint8_t width;   /* how many bits its addresses have: 39 or 48 */
+    uint8_t width;   /* how many bits its addresses have: 39, 48 or 57 */
     uint8_t x86;     /* not 0 where it has the interrupt range of x86, 0xfee00000 to 0xfeefffff */
 };
 

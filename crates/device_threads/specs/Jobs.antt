@@ -71,7 +71,7 @@ module _ {A : Type 0} {g : CoreGhosts A} where
   ComesOf settings lanes p what came q = ⊥
 
   -- The result of a port's job of this number: what came of it, and all that its pass made meanwhile, which is one
-  -- stretch of records. The result has the place of the last of them.
+  -- stretch of records. The result has the place of the last of them, which the port tells.
   pub record IsDone (settings : Settings) (lanes number : ℕ) (p : CorePort A g) (what : Job) (result : JobResult)
       (q : CorePort A g) : Type 0 where
     pub device : result.device ≡ p.device
@@ -80,6 +80,7 @@ module _ {A : Type 0} {g : CoreGhosts A} where
     pub stretch : List (Record A)
     pub made : HasMade p.pass stretch q.pass
     pub at : EndsAt settings q.pass stretch result.at
+    pub last : result.at ≡ q.last
     pub same : SamePort p q
 
   -- one result for each job and no other, in the order of the jobs, which have these numbers from the first on; each

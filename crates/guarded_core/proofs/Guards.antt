@@ -101,9 +101,19 @@ module _ {E : Type 0} where
   pub commit_sees : (lanes : ℕ) (v w : View E) (refused : NotNow) → RefusesCommit lanes v w (tried.NotNow refused)
       → OnlySees v w
   commit_sees lanes v w (refusal.Busy busy) denied = denied.0
-  commit_sees lanes v w Shared denied = denied
+  commit_sees lanes v w Shared denied = denied.0
 
 -- what follows of the value of `Ok`
 pub if_ok : {X E : Type 0} (r : Result X E) (P Q : X → Type 0) → IfOk r P → ((x : X) → P x → Q x) → IfOk r Q
 if_ok (Ok x) P Q p follows = follows x p
 if_ok (Err e) P Q p follows = tt
+
+-- and of that of `Err`
+pub if_err : {X E : Type 0} (r : Result X E) (P Q : E → Type 0) → IfErr r P → ((e : E) → P e → Q e) → IfErr r Q
+if_err (Ok x) P Q p follows = tt
+if_err (Err e) P Q p follows = follows e p
+
+-- what holds anyway holds where a call fails
+pub on_err : {X E : Type 0} (r : Result X E) (P : Type 0) → P → OnErr r P
+on_err (Ok x) P p = tt
+on_err (Err e) P p = p

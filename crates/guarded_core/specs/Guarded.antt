@@ -2,7 +2,7 @@
 use Rattle.std.specs.Prelude.{◌≡◌, ℕ, [], ◌∷◌, ◌++◌, length, drop}
 use Rattle.iofd_words.specs.declared.refusal.NoMemory.{NoMemory}
 use Rattle.lane_lock.specs.History.{Legal, StartsWith, made_by}
-use Rattle.lane_lock.specs.Outcomes.{OnlySees, RefusesWrite}
+use Rattle.lane_lock.specs.Outcomes.{MetNone, OnlySees, RefusesWrite}
 use Rattle.lane_lock.specs.Passes.{number_of, opening_of, view_of}
 use Rattle.lane_lock.specs.declared.kept.Kept as kept
 use Rattle.lane_lock.specs.declared.lock.LaneLock.{LaneLock}
@@ -38,9 +38,9 @@ module _ {K A S E : Type 0} {g : kept.Ghosts K A S E} where
     pub grown : (view_of q).seen ≡ g.history before ++ entry ∷ []
     pub own : (view_of q).made ≡ (view_of p).made ++ entry ∷ []
 
--- nothing was made, where so many lanes are: one of them was met held, or a share of the value was still held
--- elsewhere, or memory was wanting
+-- nothing was made, where so many lanes are: one of them was met held; or none was, and a share of the value was still
+-- held elsewhere, or memory was wanting
 abbrev pub RefusesCommit : {E : Type 0} → ℕ → View E → View E → TryError NoMemory → Type 0
 RefusesCommit lanes v w (tried.NotNow (refusal.Busy busy)) = RefusesWrite v w lanes busy
-RefusesCommit lanes v w (tried.NotNow Shared) = OnlySees v w
-RefusesCommit lanes v w (tried.Call no_memory) = OnlySees v w
+RefusesCommit lanes v w (tried.NotNow Shared) = OnlySees v w × MetNone v w
+RefusesCommit lanes v w (tried.Call no_memory) = OnlySees v w × MetNone v w

@@ -4,7 +4,7 @@
 ghost use Rattle.std.specs.Prelude.{◌≡◌, IfErr, IfOk};
 ghost use Rattle.std.specs.Fn.{FnReturnsAt};
 ghost use Rattle.lane_lock.specs.History.{StartsWith};
-ghost use Rattle.lane_lock.specs.Outcomes.{OnlySees, RefusesRead};
+ghost use Rattle.lane_lock.specs.Outcomes.{MetNone, OnlySees, RefusesRead};
 ghost use Rattle.lane_lock.specs.Passes.{Owns, SamePass, lane_of, lanes_of, opening_of, view_of};
 ghost use Rattle.guarded_core.specs.Guarded.{Committed, RefusesCommit, Shown};
 
@@ -50,6 +50,7 @@ pub fn try_show<K: Kept, Q: Copy, T, F: Fn(&K, Q) -> T>(
     ensures shown { IfOk result (λ answer.
         (value : K) × Shown lock.now pass.new value
         × ((x : _) × (x.now ≡ value) × F.post ask x question answer)) }
+    ensures met { IfOk result (λ _. MetNone (view_of pass.old) (view_of pass.new)) }
     ensures refused { IfErr result (RefusesRead (view_of pass.old) (view_of pass.new) (lane_of pass.old)) }
 {
     try_show_later(lock, pass, question, ask)
@@ -72,6 +73,7 @@ pub fn try_show_later<K: Kept, Q: Copy, T, F: Fn(&K, Q) -> T>(
     ensures shown { IfOk result (λ answer.
         (value : K) × Shown lock.now pass.new value
         × ((x : _) × (x.now ≡ value) × F.post ask x question answer)) }
+    ensures met { IfOk result (λ _. MetNone (view_of pass.old) (view_of pass.new)) }
     ensures refused { IfErr result (RefusesRead (view_of pass.old) (view_of pass.new) (lane_of pass.old)) }
 {
     match pass.try_read(lock) {

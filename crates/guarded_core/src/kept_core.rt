@@ -31,9 +31,25 @@ pub struct ObjectOf {
 }
 
 /// A core under a lock.
-#[derive(Drop)]
 pub struct KeptCore<A: Allocator = Global> {
     pub core: Core<A>,
+}
+
+// Written out, so that it is proved here alone and not in each crate that drops one.
+impl<A: Allocator> Drop for KeptCore<A> {
+    fn drop(self) {
+        let KeptCore { core: _ } = self;
+    }
+}
+
+impl<A: Allocator> KeptCore<A> {
+    /// The core, once it is kept no more.
+    pub fn into_core(self) -> Core<A>
+        ensures { result ≡ self.core }
+    {
+        let KeptCore { core } = self;
+        core
+    }
 }
 
 impl<A: Allocator + Copy> KeptCore<A> {

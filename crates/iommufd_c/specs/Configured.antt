@@ -6,18 +6,18 @@ use Rattle.iofd_words.specs.Settings.{DeviceSettings, Settings}
 use Rattle.iofd_words.specs.declared.config.ConfigError.{ConfigError}
 use Rattle.iofd_words.specs.declared.config.ConfigError.TheVariants as error
 use Rattle.iofd_words.specs.declared.numbers.UserNo.{UserNo}
-use Rattle.iofd_words.specs.declared.width.Width.TheVariants.{Bits39, Bits48}
+use Rattle.iofd_words.specs.declared.width.Width.TheVariants.{Bits39, Bits48, Bits57}
 use Rattle.iommufd_c.specs.declared.configuring.DeviceRow.{DeviceRow}
 
 -- its width is one that there is
 abbrev pub is_row : DeviceRow → Bool
-is_row row = (row.width == 39) || (row.width == 48)
+is_row row = (row.width == 39) || (row.width == 48) || (row.width == 57)
 
 -- the device of the row, which reserves no spans
 abbrev pub row_settings : DeviceRow → DeviceSettings
 row_settings row = record {
   source = record { 0 = row.source };
-  width = if row.width == 39 then Bits39 else Bits48;
+  width = if row.width == 39 then Bits39 else if row.width == 48 then Bits48 else Bits57;
   x86 = not (row.x86 == 0);
   reserved = [];
 }

@@ -122,15 +122,15 @@ pub record IsWritten (address : ℕ) (bytes : List ℕ) (before : Option Client)
   pub says_so : status ≡ says.access_status access
   pub tells_so : outcome ≡ tells.access_outcome (length bytes) access
 
--- A server was opened; or what was asked for is outside the limits, or there was no memory to ask, and the handle is as
--- it was.
+-- A server was opened; or what was asked for is outside the limits, or there was no memory to ask, though each device's
+-- width is one that there is; and the handle is as it was.
 abbrev pub IsOpened : Bool → Settings → ℕ → ℕ → Option Client → ℤ → Option Client → Type 0
 IsOpened are_rows settings lanes cache before status after =
     ((told : Result (Unit {0}) OpenError) × Opens before settings lanes cache told after
     × (status ≡ says.open_status told) × (are_rows ≡ true) × (first_outside settings ≡ None))
     ⊎ ((status ≡ says.outside) × ((are_rows ≡ false) ⊎ ((e : ConfigError) × (first_outside settings ≡ Some e)))
     × (after ≡ before))
-    ⊎ ((status ≡ says.no_memory) × (after ≡ before))
+    ⊎ ((status ≡ says.no_memory) × (are_rows ≡ true) × (after ≡ before))
 
 -- another caller's handle was opened
 pub record IsShared (before other : Option Client) (status : ℤ) (after now : Option Client) : Type 0 where

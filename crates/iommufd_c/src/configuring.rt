@@ -13,7 +13,7 @@ use std::alloc::Global;
 pub struct DeviceRow {
     /// The id by which the IOMMU knows it.
     pub source: u16,
-    /// How many bits its addresses have: 39 or 48.
+    /// How many bits its addresses have: 39, 48 or 57.
     pub width: u8,
     /// Whether it has the interrupt range of x86: not 0.
     pub x86: u8,
@@ -23,7 +23,7 @@ pub struct DeviceRow {
 fn are_rows(rows: &[DeviceRow]) -> bool
     ensures { result ≡ list_all is_row rows.now }
 {
-    rows.iter().all(|row| row.width == 39 || row.width == 48)
+    rows.iter().all(|row| row.width == 39 || row.width == 48 || row.width == 57)
 }
 
 // The device of a row. It reserves no spans.
@@ -32,8 +32,10 @@ fn device_of(alloc: Global, row: &DeviceRow) -> DeviceConfig
 {
     let width = if row.width == 39 {
         Width::Bits39
-    } else {
+    } else if row.width == 48 {
         Width::Bits48
+    } else {
+        Width::Bits57
     };
     let reserved = SpanList::new(Vec::new(alloc));
     DeviceConfig::new(SourceId(row.source), width, row.x86 != 0, reserved)

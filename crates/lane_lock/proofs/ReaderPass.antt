@@ -148,6 +148,9 @@ module _ {K A S E : Type 0} {g : kept.Ghosts K A S E} (p : Pass K A S E g) (w : 
       later = subst (λ (h : List E). StartsWith h v.seen) (sym shown) full.1;
     }
 
+    pub reader_met : m2.0.busy ≡ v.busy
+    reader_met = ap (λ (u : Mine K E Global). u.0.busy) shows
+
     pub reader_has : HasOneLane g.history g.maker m2 p.lane (Some a)
     reader_has = record {
       there = refl;

@@ -105,6 +105,10 @@ module _ {K E Z : Type 0} (hist : K → List E) (by : E → ℕ) where
         (ap (λ (v : View E). v.made) c.view ∙ ap (λ (u : Mine K E Z). u.0.made) f.is)
         (ap (λ (v : View E). v.seen) c.view ∙ ap (λ (u : Mine K E Z). u.0.seen) f.is)
 
+    -- it met no lane held
+    pub climbed_met : (m'' : Mine K E Z) (n : ℕ) → Climbed hist m' w n m'' → m''.0.busy ≡ m.0.busy
+    climbed_met m'' n c = ap (λ (v : View E). v.busy) c.view ∙ ap (λ (u : Mine K E Z). u.0.busy) f.is
+
     -- the pass held none of the lanes that it took
     pub own_free : (m'' : Mine K E Z) (n own : ℕ) → Climbed hist m' w n m'' → own ≤ n → get_or m.0.held own 0 ≡ 0
     own_free m'' n own c le = dite (ℕ_discrete own 0) (λ e. ap (λ (k : ℕ). get_or m.0.held k 0) e ∙ f.free)

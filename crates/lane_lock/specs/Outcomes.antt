@@ -42,6 +42,10 @@ module _ {E : Type 0} where
     pub among : holder < v.passes
     pub own : holder ≡ v.number → slice_index v.held lane ≢ 0
 
+  -- no take met a lane that was held
+  abbrev pub MetNone : View E → View E → Type 0
+  MetNone v w = w.busy ≡ v.busy
+
   -- one more take to read met a slot that was empty: this lane's, which isn't lane 0
   pub record MetEmpty (v w : View E) (lane : ℕ) : Type 0 where
     pub counted : w.empty ≡ v.empty + 1

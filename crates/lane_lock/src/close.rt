@@ -1,21 +1,16 @@
 //! The end of a lock.
 
-ghost use Rattle.std.specs.Prelude.{◌≡◌, ℕ, ◌<◌, [], Some, slice_get, is_some};
-ghost use Rattle.std.specs.Prelude.{true, false, MatchBool};
-ghost use Rattle.std.specs.Prelude.{MatchResult, IfOk, IfErr};
-ghost use Rattle.std.specs.Arc.{arc_value};
-ghost use Rattle.lane_lock.specs.Closing.{AllHere, Closes};
+ghost use Rattle.std.specs.Prelude.{◌≡◌, ℕ, ◌<◌, Some, slice_get};
+ghost use Rattle.std.specs.Prelude.{MatchBool, IfOk, IfErr};
 ghost use Rattle.lane_lock.specs.Ending.{Gathers, HasNumber, IsAbsent, AllIdle, SomeBusy, EndsWith, GivesAllBack};
 ghost use Rattle.lane_lock.specs.Passes.{OwnsAll};
-ghost use Rattle.lane_lock.specs.Views.{IsBlank};
 
 use crate::kept::Kept;
 use crate::lock::LaneLock;
 use crate::pass::Pass;
 use crate::refusal::CloseError;
 use crate::steps::gather;
-use crate::table::{PassSeat, Share, SharedLanes};
-use std::sync::Arc;
+use crate::table::{PassSeat, SharedLanes};
 
 // Whether one of the passes has this number.
 fn has_pass<K: Kept>(passes: &Vec<Pass<K>>, number: u16) -> bool
@@ -54,23 +49,6 @@ fn are_all<K: Kept>(passes: &Vec<Pass<K>>, count: u16) -> bool
     true
 }
 
-// The seat of a pass that is under no guard.
-fn into_seat<K: Kept>(pass: Pass<K>) -> PassSeat<K>
-    requires { is_some pass.share ≡ false }
-    ensures seat { result ≡ pass.seat }
-    ensures alone { (result.me.0.stands ≡ true) × (result.me.0.others ≡ []) }
-    ensures idle { (result.me.1 ≡ []) × IsBlank result.me.0 }
-{
-    let Pass {
-        seat,
-        number: _,
-        lane: _,
-        seen: _,
-        share: _,
-    } = pass;
-    seat
-}
-
 // Takes all passes into the view of one seat.
 fn gather_all<K: Kept>(
     lanes: &SharedLanes<K>,
@@ -85,38 +63,12 @@ fn gather_all<K: Kept>(
     ensures gathered { Gathers seat.me.0 passes.items result.me.0 }
 {
     while let Some(pass) = passes.pop() {
-        gather(lanes, &mut seat, into_seat(pass));
+        gather(lanes, &mut seat, pass.into_seat());
     }
     seat
 }
 
 impl<K: Kept> LaneLock<K> {
-    // The seat has all passes in its view.
-    fn finish(self, seat: PassSeat<K>) -> Result<K, Share<K>>
-        requires { (seat.table_id ≡ self.table.shared.table_id) × AllHere self.table.shared.key.passes seat.me.0 }
-        ensures { MatchResult result (λ value.
-            Closes K.history K.maker self.table.shared.key seat.me.0 (K.history value)) (λ share.
-            Closes K.history K.maker self.table.shared.key seat.me.0 (K.history (arc_value share))) }
-    {
-        let LaneLock {
-            table,
-            lanes: _,
-            passes: _,
-        } = self;
-        let mut closed = table.close_with(seat);
-        let first = closed.take(0);
-        let mut slot = 1;
-        while slot < closed.slot_count() {
-            drop(closed.take(slot));
-            slot += 1;
-        }
-        closed.free();
-        match first {
-            Some(share) => Arc::try_unwrap(share),
-            None => unreachable!(),
-        }
-    }
-
     /// Ends the lock and gives the value back. Its history is the opening value's and then the records of all
     /// passes, each once and in its pass's order, and no others. Where a pass is missing or one of them still holds
     /// a lane, NotAll hands lock and passes back. Where a share of the value is still held elsewhere, Shared hands
@@ -132,7 +84,7 @@ impl<K: Kept> LaneLock<K> {
         let Some(last) = passes.pop() else {
             unreachable!()
         };
-        let seat = gather_all(&self.table.shared, into_seat(last), passes);
+        let seat = gather_all(&self.table.shared, last.into_seat(), passes);
         match self.finish(seat) {
             Ok(value) => Ok(value),
             Err(share) => Err(CloseError::Shared(share)),

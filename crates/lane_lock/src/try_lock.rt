@@ -11,7 +11,7 @@ use crate::write_guard::WriteGuard;
 impl<K: Kept> LaneLock<K> {
     ghost use Rattle.std.specs.Borrow.{sem};
     ghost use Rattle.std.specs.Prelude.{◌≡◌, IfOk};
-    ghost use Rattle.lane_lock.specs.Outcomes.{OnlySees};
+    ghost use Rattle.lane_lock.specs.Outcomes.{MetNone, OnlySees};
     ghost use Rattle.lane_lock.specs.Passes.{Owns, SamePass, IsReading, IsWriting, view_of, lanes_of};
     ghost use Rattle.lane_lock.specs.ReadGuards.{RestsUnlessReading};
     ghost use Rattle.lane_lock.specs.WriteGuards.{RestsUnlessWriting};
@@ -27,6 +27,7 @@ impl<K: Kept> LaneLock<K> {
         ensures same_pass { IfOk result (λ g. SamePass pass.old g.pass.now) }
         ensures reading { IfOk result (λ g. IsReading g.pass.now) }
         ensures sees { IfOk result (λ g. OnlySees (view_of pass.old) (view_of g.pass.now)) }
+        ensures met { IfOk result (λ g. MetNone (view_of pass.old) (view_of g.pass.now)) }
     {
         pass.try_read(self)
     }
@@ -43,6 +44,7 @@ impl<K: Kept> LaneLock<K> {
         ensures same_pass { IfOk result (λ g. SamePass pass.old g.pass.now) }
         ensures writing { IfOk result (λ g. IsWriting self.now g.pass.now) }
         ensures sees { IfOk result (λ g. OnlySees (view_of pass.old) (view_of g.pass.now)) }
+        ensures met { IfOk result (λ g. MetNone (view_of pass.old) (view_of g.pass.now)) }
     {
         pass.try_write(self)
     }

@@ -17,7 +17,7 @@ pub struct WriteGuard<'a, K: Kept> {
 impl<K: Kept> Pass<K> {
     ghost use Rattle.std.specs.Borrow.{sem};
     ghost use Rattle.std.specs.Prelude.{◌≡◌, IfOk};
-    ghost use Rattle.lane_lock.specs.Outcomes.{OnlySees};
+    ghost use Rattle.lane_lock.specs.Outcomes.{MetNone, OnlySees};
     ghost use Rattle.lane_lock.specs.Passes.{Owns, SamePass, IsWriting, view_of};
     ghost use Rattle.lane_lock.specs.WriteGuards.{RestsUnlessWriting};
 
@@ -31,6 +31,7 @@ impl<K: Kept> Pass<K> {
         ensures same_pass { IfOk result (λ g. SamePass self.old g.pass.now) }
         ensures writing { IfOk result (λ g. IsWriting lock.now g.pass.now) }
         ensures sees { IfOk result (λ g. OnlySees (view_of self.old) (view_of g.pass.now)) }
+        ensures met { IfOk result (λ g. MetNone (view_of self.old) (view_of g.pass.now)) }
     {
         lock.start_write(self)?;
         Ok(WriteGuard { lock, pass: self })
@@ -40,7 +41,7 @@ impl<K: Kept> Pass<K> {
 impl<'a, K: Kept> WriteGuard<'a, K> {
     ghost use Rattle.std.specs.Prelude.{◌≡◌, length, IfOk, IfErr, OnErr};
     ghost use Rattle.lane_lock.specs.History.{Legal, StartsWith};
-    ghost use Rattle.lane_lock.specs.Outcomes.{KeepsHistory};
+    ghost use Rattle.lane_lock.specs.Outcomes.{KeepsHistory, MetNone};
     ghost use Rattle.lane_lock.specs.Passes.{
       SamePass,
       IsWriting,
@@ -82,6 +83,7 @@ impl<'a, K: Kept> WriteGuard<'a, K> {
         ensures memory { IfErr result (λ error. (value : K) × ShowsValue self.entry.pass.now value
             × MayWant K.wants value act.now error) }
         ensures err { OnErr result (KeepsHistory (view_of self.entry.pass.now) (view_of self.exit.1.0.now)) }
+        ensures met { MetNone (view_of self.entry.pass.now) (view_of self.exit.1.0.now) }
     {
         let WriteGuard { lock, pass } = self;
         lock.finish_write(pass, act)

@@ -12,10 +12,16 @@ use std::num::NonZeroUsize;
 
 /// Pages, each with what it is translated to, the most recently used first; and how many turns the device had had when
 /// they were last compared with the server.
-#[derive(Drop)]
 pub struct PortCache<A: Allocator + Copy = Global> {
     pub pages: LruCache<u64, Translation, DefaultHasher, A>,
     pub turns: u64,
+}
+
+// Written out, so that it is proved here alone and not in each crate that drops one.
+impl<A: Allocator + Copy> Drop for PortCache<A> {
+    fn drop(self) {
+        let PortCache { pages: _, turns: _ } = self;
+    }
 }
 
 /// What an access finds under a guard: how many turns the device has had, and what the page is translated to, with the

@@ -3,7 +3,7 @@ use Rattle.std.specs.Prelude.{◌≡◌, ◌⊎◌, ℕ, ◌+◌, [], ◌∷◌,
 use Rattle.std.specs.Arc.{arc_value}
 use Rattle.std.specs.declared.alloc.Global.{Global}
 use Rattle.iofd_words.specs.Settings.{Settings}
-use Rattle.lane_lock.specs.Passes.{SamePass, lanes_of}
+use Rattle.lane_lock.specs.Passes.{AllNew, SamePass, lanes_of}
 use Rattle.shared_iommufd.specs.Limits.{first_outside}
 use Rattle.shared_iommufd.specs.Ports.{KeepsNothing, SamePort, most_of}
 use Rattle.shared_iommufd.specs.Servers.{settings_of}
@@ -14,12 +14,14 @@ use Rattle.server_handle.specs.declared.device.Device.{Device}
 use Rattle.server_handle.specs.declared.error.GiveError.{GiveError}
 use Rattle.server_handle.specs.declared.error.GiveError.TheVariants as error
 
--- A server was opened so for this caller: it has these settings and so many lanes. The caller has one pass, and all
--- others to give, and the key of each device; a port may keep so many pages. Lanes and pages are within their limits.
+-- A server was opened so for this caller: it has these settings and so many lanes. The caller has the last of its
+-- passes, and all others to give, each of them new, and the key of each device; a port may keep so many pages. Lanes
+-- and pages are within their limits.
 pub record IsFirst (settings : Settings) (lanes cache : ℕ) (c : Caller) : Type 0 where
   pub opened : settings_of (arc_value c.server) ≡ settings
   pub has_lanes : lanes_of (arc_value c.server).lock ≡ lanes
   pub passes : length c.spare.items + 1 ≡ settings.passes
+  pub all_new : AllNew (arc_value c.server).lock settings.passes (c.spare.items ++ c.pass ∷ [])
   pub keys : length c.keys.items ≡ length settings.devices
   pub most : Each (λ i key. key.cache.pages.cap ≡ cache) c.keys.items
   pub within : first_outside lanes cache ≡ None

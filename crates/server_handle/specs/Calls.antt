@@ -47,8 +47,8 @@ pub record Serves (file : FileNo) (number : ℕ) (bytes : List ℕ) (c : Caller)
     (told : Result (IoctlAnswer Global) (TryError NoMemory)) (d : Caller) : Type 0 where
   pub same : SameCaller c d
   pub served : IfOk told (λ answer. IsDecoded (settings_of (arc_value c.server)) c.pass file number bytes answer d.pass)
-  pub refused : IfErr told (RefusesIoctl (lanes_of (arc_value c.server).lock) (lane_of c.pass) (view_of c.pass)
-      (view_of d.pass))
+  pub refused : IfErr told (RefusesIoctl number bytes (lanes_of (arc_value c.server).lock) (lane_of c.pass)
+      (view_of c.pass) (view_of d.pass))
 
 -- the device's turn made one record, which the stamp tells, or none; the port keeps nothing
 pub record TakesTurn (turn : Turn) (p : Device) (told : Result Stamp (TryError NoMemory)) (q : Device) : Type 0 where

@@ -49,12 +49,12 @@ Opens before settings lanes cache (Err opened.Open) after = (before ≡ None →
 Opens before settings lanes cache (Err (opened.Server e)) after =
     (before ≡ None) × IsRefusedFor lanes cache e × (after ≡ before)
 
--- why a caller gives nothing to another handle
+-- why a caller gives nothing to another handle, which is asked first whether it is closed
 abbrev pub GivesNot : Option Client → Option Client → (Caller → Type 0) → GiveError → Type 0
 GivesNot before other HadNone given.Open = other ≡ None → ⊥
-GivesNot before other HadNone given.NoCaller = HasCaller before (λ c. Unit {0}) → ⊥
-GivesNot before other HadNone given.NoneLeft = HasCaller before HadNone
-GivesNot before other HadNone given.Memory = Unit {0}
+GivesNot before other HadNone given.NoCaller = (other ≡ None) × (HasCaller before (λ c. Unit {0}) → ⊥)
+GivesNot before other HadNone given.NoneLeft = (other ≡ None) × HasCaller before HadNone
+GivesNot before other HadNone given.Memory = other ≡ None
 
 -- A caller gives a pass to another one, whose handle was closed; or both handles stay as they were.
 abbrev pub Shares : Option Client → Option Client → Result (Unit {0}) GiveError → Option Client → Option Client → Type 0

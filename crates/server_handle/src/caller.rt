@@ -16,7 +16,6 @@ use std::sync::Arc;
 /// A caller of a server: a share of it, and a pass. Its calls are made one at a time, and none waits.
 ///
 /// The one that opened the server has also what nobody has yet: passes, and the keys of the first devices.
-#[derive(Drop)]
 pub struct Caller {
     pub(crate) server: Arc<Server, Global>,
     pub(crate) pass: Pass,
@@ -25,6 +24,18 @@ pub struct Caller {
     ghost owned: { IsPassOf (arc_value server) pass },
     ghost spared: { ArePassesOf (arc_value server) spare.items },
     ghost keyed: { AreKeysOf (arc_value server) keys.items },
+}
+
+// Written out, so that it is proved here alone and not in each crate that drops one.
+impl Drop for Caller {
+    fn drop(self) {
+        let Caller {
+            server: _,
+            pass: _,
+            spare: _,
+            keys: _,
+        } = self;
+    }
 }
 
 // Takes the last of the passes, which are the server's.

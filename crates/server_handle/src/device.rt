@@ -11,11 +11,17 @@ use std::alloc::Global;
 use std::sync::Arc;
 
 /// The port of a device, with a share of its server. Its calls are made one at a time, and none waits.
-#[derive(Drop)]
 pub struct Device {
     pub(crate) server: Arc<Server, Global>,
     pub(crate) port: Port,
     ghost owned: { IsPortOf (arc_value server) port },
+}
+
+// Written out, so that it is proved here alone and not in each crate that drops one.
+impl Drop for Device {
+    fn drop(self) {
+        let Device { server: _, port: _ } = self;
+    }
 }
 
 /// How a read or a write ended, and the place of the last record that it made, if it made one.

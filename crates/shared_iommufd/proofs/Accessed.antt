@@ -176,4 +176,4 @@ module _ {A : Type 0} {g : CoreGhosts A} where
 pub refused_sees : {E : Type 0} (lanes : ℕ) (v w : View E) (e : TryError NoMemory) → RefusesCommit lanes v w e
     → OnlySees v w
 refused_sees lanes v w (tried.NotNow refused) denied = commit_sees lanes v w refused denied
-refused_sees lanes v w (tried.Call no_memory) denied = denied
+refused_sees lanes v w (tried.Call no_memory) denied = denied.0

@@ -43,7 +43,7 @@ use Rattle.iofd_words.specs.declared.reply.Reply.TheVariants as reply
 use Rattle.iofd_words.specs.declared.rows.Attachment.{Attachment}
 use Rattle.iofd_words.specs.declared.rows.Object.{Object}
 use Rattle.iofd_words.specs.declared.width.Width.{Width}
-use Rattle.iofd_words.specs.declared.width.Width.TheVariants.{Bits39, Bits48}
+use Rattle.iofd_words.specs.declared.width.Width.TheVariants.{Bits39, Bits48, Bits57}
 use Rattle.iommufd_core.proofs.Histories.{fit_run}
 
 -- what a list contains is in it
@@ -54,17 +54,18 @@ is_in (y ∷ ys) x (suc k, within, is) = inr (is_in ys x (k, omega (arith, withi
 
 -- ---- an access that passes
 
-below_widest : (width : Width) (address : ℕ) → leb (2 ^ bits_of width) address ≡ false → address < 2 ^ 48
+below_widest : (width : Width) (address : ℕ) → leb (2 ^ bits_of width) address ≡ false → address < 2 ^ 57
 below_widest Bits39 address is = let low = leb-false (2 ^ 39) address is in omega arith
-below_widest Bits48 address is = leb-false (2 ^ 48) address is
+below_widest Bits48 address is = let low = leb-false (2 ^ 48) address is in omega arith
+below_widest Bits57 address is = leb-false (2 ^ 57) address is
 
 below_width : (o : Option DeviceSettings) (address : ℕ) (within : List Outcome) (frame : FrameNo) → is_some o ≡ true
-    → IsIn (by_width o address (Denied BeyondWidth ∷ []) within) (Passes frame) → address < 2 ^ 48
+    → IsIn (by_width o address (Denied BeyondWidth ∷ []) within) (Passes frame) → address < 2 ^ 57
 below_width None address within frame known passes = cc
 below_width (Some d) address within frame known passes = by_test (leb (2 ^ bits_of d.width) address) refl passes
   where
     by_test : (b : Bool) → leb (2 ^ bits_of d.width) address ≡ b
-        → IsIn (cond b (Denied BeyondWidth ∷ []) within) (Passes frame) → address < 2 ^ 48
+        → IsIn (cond b (Denied BeyondWidth ∷ []) within) (Passes frame) → address < 2 ^ 57
     by_test true is (inl same) = cc
     by_test true is (inr none) = absurd none
     by_test false is passes = below_widest d.width address is
@@ -77,7 +78,7 @@ module _ (w : World) (fits : RowsFit w) (device : DeviceNo) where
 
   pub passes_below : (address : ℕ) (kind : AccessKind) (frame : FrameNo)
       → is_none (binding_of w.objects device) ≡ false → IsIn (outcomes w device address kind) (Passes frame)
-      → address < 2 ^ 48
+      → address < 2 ^ 57
   unfolding outcomes access_outcomes
   passes_below address kind frame bound passes = by_attachment (attachment_of w.attachments device) passes
     where
@@ -86,7 +87,7 @@ module _ (w : World) (fits : RowsFit w) (device : DeviceNo) where
             | None ↦ Denied NoContext ∷ []
             | Some a ↦ by_width (device_of w.settings device) address (Denied BeyondWidth ∷ [])
                 (translated (view w) device address kind a)
-          ]) (Passes frame) → address < 2 ^ 48
+          ]) (Passes frame) → address < 2 ^ 57
       by_attachment None (inl same) = cc
       by_attachment None (inr none) = absurd none
       by_attachment (Some a) passes =
@@ -97,7 +98,7 @@ module _ (w : World) (fits : RowsFit w) (device : DeviceNo) where
 
 -- the bytes that were asked for, from an address below every width, or why there are none
 abbrev pub ComesOfRead : ℕ → ℕ → Answer → Type 0
-ComesOfRead address len (answer.Read bytes) = (length bytes ≡ len) × (address < 2 ^ 48)
+ComesOfRead address len (answer.Read bytes) = (length bytes ≡ len) × (address < 2 ^ 57)
 ComesOfRead address len (answer.Fault fault) = Unit {0}
 ComesOfRead address len (answer.Refused refusal) = Unit {0}
 ComesOfRead address len (answer.Count count) = ⊥
@@ -140,7 +141,7 @@ comes_of_read settings records device iova len a run lawful =
 
 -- the frame at which it passed, at an address below every width, or why it didn't
 abbrev pub ComesOfWrite : ℕ → Reply → Type 0
-ComesOfWrite address (reply.Passed frame) = address < 2 ^ 48
+ComesOfWrite address (reply.Passed frame) = address < 2 ^ 57
 ComesOfWrite address (reply.Fault fault) = Unit {0}
 ComesOfWrite address (reply.Refused refusal) = Unit {0}
 ComesOfWrite address other = ⊥

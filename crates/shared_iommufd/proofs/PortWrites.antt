@@ -113,7 +113,7 @@ module _ {A : Type 0} {g : CoreGhosts A} where
 
 -- where a write passed its address is below every width
 pub passed_below : (address : ℕ) (r : Reply) (frame : FrameNo) → ComesOfWrite address r → r ≡ reply.Passed frame
-    → address < 2 ^ 48
+    → address < 2 ^ 57
 passed_below address r frame comes is = subst (ComesOfWrite address) is comes
 
 -- there is no other answer

@@ -25,7 +25,7 @@ use Rattle.ioctl_codec.specs.declared.events.Asked.TheVariants as asks
 use Rattle.iommufd_core.specs.History.{History, world}
 use Rattle.iommufd_core.specs.declared.apply.Stamp.{Stamp}
 use Rattle.iova_ranges.specs.declared.range_set.RangeSet.{RangeSet}
-use Rattle.lane_lock.specs.Outcomes.{OnlySees, RefusesRead}
+use Rattle.lane_lock.specs.Outcomes.{MetNone, OnlySees, RefusesRead}
 use Rattle.lane_lock.specs.Passes.{view_of}
 use Rattle.lane_lock.specs.declared.table.View.{View}
 use Rattle.guarded_core.specs.Entries.{history_of}
@@ -102,11 +102,16 @@ module _ {A : Type 0} where
         ⊎ ((command : Command A) × Spells number bytes command
         × IsServed settings p file (asked file command) answer q)
 
--- no look was had: the lane of the pass was held or empty, or memory was wanting
+-- no look was had: the lane of the pass was held or empty; or it was met neither way, and memory was wanting
 abbrev pub RefusesLook : {E : Type 0} → ℕ → View E → View E → TryError NoMemory → Type 0
 RefusesLook lane v w (tried.NotNow refused) = RefusesRead v w lane refused
-RefusesLook lane v w (tried.Call no_memory) = OnlySees v w
+RefusesLook lane v w (tried.Call no_memory) = OnlySees v w × MetNone v w
 
--- nothing was made, by a call of this lane, where so many lanes are
-abbrev pub RefusesIoctl : {E : Type 0} → ℕ → ℕ → View E → View E → TryError NoMemory → Type 0
-RefusesIoctl lanes lane v w error = RefusesCommit lanes v w error ⊎ RefusesLook lane v w error
+-- a command isn't carried out by a call of this lane, where so many lanes are: nothing was made
+abbrev pub RefusesCommand : {E : Type 0} → ℕ → ℕ → View E → View E → TryError NoMemory → Type 0
+RefusesCommand lanes lane v w error = RefusesCommit lanes v w error ⊎ RefusesLook lane v w error
+
+-- the same of a call of ioctl, whose bytes spell a command: no cause refuses them
+abbrev pub RefusesIoctl : {E : Type 0} → ℕ → List ℕ → ℕ → ℕ → View E → View E → TryError NoMemory → Type 0
+RefusesIoctl number bytes lanes lane v w error =
+    (codec.refusal number bytes ≡ None) × RefusesCommand lanes lane v w error

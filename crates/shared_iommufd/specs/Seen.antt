@@ -11,7 +11,7 @@ use Rattle.iofd_words.specs.declared.query.Answer.{Answer}
 use Rattle.iofd_words.specs.declared.query.Query.{Query}
 use Rattle.iofd_words.specs.declared.record.Record.{Record}
 use Rattle.lane_lock.specs.History.{Legal}
-use Rattle.lane_lock.specs.Outcomes.{RefusesRead}
+use Rattle.lane_lock.specs.Outcomes.{MetNone, RefusesRead}
 use Rattle.lane_lock.specs.Passes.{lane_of, number_of, view_of}
 use Rattle.server_state.specs.Choice.{IsLooked}
 use Rattle.guarded_core.specs.Entries.{history_of, maker_of, told}
@@ -41,10 +41,12 @@ module _ {A : Type 0} {g : CoreGhosts A} where
     pub seen : HasSeen settings p records
     pub tells : TellsNotices (history_of settings records) file access answer
 
-  -- the same of a question that doesn't wait; where the lane of the pass was held or empty, the pass has seen no more
+  -- the same of a question that doesn't wait; where the lane of the pass was held or empty, the pass has seen no more, and
+  -- that isn't told as a failure
   abbrev pub AreTriedNotices : Settings → CorePass A g → CorePass A g → FileNo → ObjId
       → Result (Vec Bounds A) (TryError CallError) → Type 0
   AreTriedNotices settings p q file access (Ok spans) = AreNotices settings q file access (Ok spans)
-  AreTriedNotices settings p q file access (Err (tried.Call failed)) = AreNotices settings q file access (Err failed)
+  AreTriedNotices settings p q file access (Err (tried.Call failed)) =
+      AreNotices settings q file access (Err failed) × MetNone (view_of p) (view_of q)
   AreTriedNotices settings p q file access (Err (tried.NotNow refused)) =
       RefusesRead (view_of p) (view_of q) (lane_of p) refused

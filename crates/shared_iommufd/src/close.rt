@@ -2,7 +2,6 @@
 
 use crate::error::CloseError;
 use crate::server::{Pass, Server};
-use guarded_core::KeptCore;
 use iommufd_core::Core;
 use lane_lock::CloseError as LockError;
 use std::alloc::Allocator;
@@ -21,12 +20,11 @@ impl<A: Allocator + Copy> Server<A> {
         ensures ends { IfOk result (λ core. Ends self.lock passes.items core.history) }
         ensures refused { IfErr result (GivesBack self passes.items) }
     {
-        let Server { lock, alloc } = self;
+        let (lock, alloc) = self.into_parts();
         match lock.close(passes) {
             Ok(kept) => {
-                let KeptCore { core } = kept;
-                let _records = core.records();
-                Ok(core)
+                let _core = kept.core();
+                Ok(kept.into_core())
             }
             Err(LockError::NotAll { lock, passes }) => Err(CloseError::NotAll {
                 server: Server { lock, alloc },

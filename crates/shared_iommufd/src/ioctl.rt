@@ -99,13 +99,14 @@ fn told<A: Allocator>(
 }
 
 impl<A: Allocator + Copy> Server<A> {
-    ghost use Rattle.std.specs.Prelude.{OnErr, IfErr};
+    ghost use Rattle.std.specs.Prelude.{None, OnErr, IfErr};
     ghost use Rattle.ioctl_codec.specs.Events.{asked};
+    ghost use Rattle.ioctl_codec.specs.Refusals.{refusal};
     ghost use Rattle.lane_lock.specs.Outcomes.{OnlySees};
     ghost use Rattle.lane_lock.specs.Passes.{SamePass, lane_of, lanes_of, view_of};
     ghost use Rattle.guarded_core.specs.Guarded.{RefusesCommit};
     ghost use Rattle.shared_iommufd.specs.Ioctls.{IsDecoded, IsMade, IsServed, IsTold};
-    ghost use Rattle.shared_iommufd.specs.Ioctls.{RefusesIoctl, RefusesLook};
+    ghost use Rattle.shared_iommufd.specs.Ioctls.{RefusesCommand, RefusesIoctl, RefusesLook};
     ghost use Rattle.shared_iommufd.specs.Servers.{IsPassOf, settings_of};
 
     /// Carries out a call of ioctl that the file makes with this number and these bytes (uapi header `iommufd.h`), once
@@ -113,7 +114,8 @@ impl<A: Allocator + Copy> Server<A> {
     /// IOAS_IOVA_RANGES is answered as of all records that the pass has then seen; bytes that spell no command are
     /// refused, take no lane and make no record.
     ///
-    /// The memory of an event's answer is taken before the event is applied: with NoMemory no record was made.
+    /// The memory of an event's answer is taken before the event is applied: with NoMemory no record was made. Bytes that
+    /// spell no command are never answered so.
     pub fn ioctl<R: Wait>(
         &self,
         rt: &R,
@@ -127,6 +129,7 @@ impl<A: Allocator + Copy> Server<A> {
         ensures owned { IsPassOf self.now pass.new }
         ensures served { IfOk result (λ answer.
             IsDecoded (settings_of self.now) pass.old file number bytes.now answer pass.new) }
+        ensures spelt { OnErr result (refusal number bytes.now ≡ None) }
         ensures none { OnErr result (OnlySees (view_of pass.old) (view_of pass.new)) }
     {
         match decode(self.alloc, number, bytes) {
@@ -150,8 +153,8 @@ impl<A: Allocator + Copy> Server<A> {
         ensures owned { IsPassOf self.now pass.new }
         ensures served { IfOk result (λ answer.
             IsDecoded (settings_of self.now) pass.old file number bytes.now answer pass.new) }
-        ensures refused { IfErr result (RefusesIoctl (lanes_of self.now.lock) (lane_of pass.old) (view_of pass.old)
-            (view_of pass.new)) }
+        ensures refused { IfErr result (RefusesIoctl number bytes.now (lanes_of self.now.lock) (lane_of pass.old)
+            (view_of pass.old) (view_of pass.new)) }
     {
         match decode(self.alloc, number, bytes) {
             Ok(command) => self.try_serve(pass, file, command),
@@ -193,7 +196,7 @@ impl<A: Allocator + Copy> Server<A> {
         ensures owned { IsPassOf self.now pass.new }
         ensures served { IfOk result (λ answer.
             IsServed (settings_of self.now) pass.old file (asked file command) answer pass.new) }
-        ensures refused { IfErr result (RefusesIoctl (lanes_of self.now.lock) (lane_of pass.old) (view_of pass.old)
+        ensures refused { IfErr result (RefusesCommand (lanes_of self.now.lock) (lane_of pass.old) (view_of pass.old)
             (view_of pass.new)) }
     {
         match command.asked(file) {

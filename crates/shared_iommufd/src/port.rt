@@ -46,7 +46,7 @@ impl<A: Allocator + Copy> Server<A> {
         ensures empty { KeepsNothing result }
     {
         let _ = self;
-        let PortKey { device, cache } = key;
+        let (device, cache) = key.into_parts();
         Port {
             device,
             pass,

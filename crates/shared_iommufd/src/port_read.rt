@@ -156,7 +156,7 @@ impl<A: Allocator + Copy> Port<A> {
         ensures sees { OnlySees (view_of self.old.pass) (view_of self.new.pass) }
         ensures read { IfOk result (λ _. IsReadSo (settings_of server.now) self.old.device (most_of self.old) address
             (length piece.old) (standing_of self.old) (Answer.Read piece.new) (standing_of self.new)) }
-        ensures low { IfOk result (λ _. address < 2 ^ 48) }
+        ensures low { IfOk result (λ _. address < 2 ^ 57) }
         ensures denied { IfErr result (λ cause. DeniesRead (settings_of server.now) self.old.device (most_of self.old)
             address (length piece.old) (standing_of self.old) cause (standing_of self.new)) }
         ensures kept { OnErr result (piece.new ≡ piece.old) }

@@ -132,7 +132,7 @@ impl<A: Allocator + Copy> Port<A> {
         ensures written { IfOk result (λ _. (frame : FrameNo) × IsWrittenSo (settings_of server.now) self.old.device
             (most_of self.old) address bytes.now (standing_of self.old) (Reply.Passed frame) self.new.last
             (standing_of self.new)) }
-        ensures low { IfOk result (λ _. address < 2 ^ 48) }
+        ensures low { IfOk result (λ _. address < 2 ^ 57) }
         ensures denied { IfErr result (λ cause. DeniesWrite (settings_of server.now) (lanes_of server.now.lock)
             self.old.device (most_of self.old) address bytes.now (standing_of self.old) self.old.last cause
             (standing_of self.new) self.new.last) }

@@ -20,13 +20,19 @@ use std::num::NonZeroUsize;
 pub type Pass<A = Global> = lane_lock::Pass<KeptCore<A>>;
 
 /// A server for any number of callers, in threads of their own, each with a pass.
-#[derive(Drop)]
 pub struct Server<A: Allocator + Copy = Global> {
     pub(crate) lock: LaneLock<KeptCore<A>>,
     // Memory of answers.
     pub(crate) alloc: A,
     ghost fresh: { (opened_with lock).records ≡ [] },
     ghost counted: { passes_of lock ≡ (opened_with lock).settings.passes },
+}
+
+// Written out, so that it is proved here alone and not, with all that a server has, in each crate that drops one.
+impl<A: Allocator + Copy> Drop for Server<A> {
+    fn drop(self) {
+        let Server { lock: _, alloc: _ } = self;
+    }
 }
 
 impl<A: Allocator + Copy> Server<A> {
@@ -93,5 +99,14 @@ impl<A: Allocator + Copy> Server<A> {
             Ok((lock, passes)) => Some((Server { lock, alloc }, passes)),
             Err(_) => None,
         }
+    }
+
+    // The lock and the memory of answers, where the server ends.
+    pub(crate) fn into_parts(self) -> (LaneLock<KeptCore<A>>, A)
+        ensures lock { result.0 ≡ self.lock }
+        ensures alloc { result.1 ≡ self.alloc }
+    {
+        let Server { lock, alloc } = self;
+        (lock, alloc)
     }
 }

@@ -17,7 +17,7 @@ use iofd_words::{Act, Config, DeviceNo, Event, FileNo, Iova, UnmapRequest};
 use journal_audit::{Verdict, audit};
 use journal_audit_writing::journal;
 use shared_iommufd::{Core, Pass, Port, PortKey, Server};
-use std::alloc::Global;
+use std::alloc::{Allocator, Global};
 use std::sync::Wait;
 use std::thread::{Threads, join};
 
@@ -38,7 +38,7 @@ impl Gate for Open {
 }
 
 // Page 2 comes or goes.
-fn change(round: u32) -> Act
+fn change<A: Allocator>(round: u32) -> Act<A>
     ensures event { event_of_port result.event ≡ false }
     ensures via { result.via ≡ None }
 {
@@ -56,7 +56,12 @@ fn change(round: u32) -> Act
 }
 
 // Maps and unmaps page 2, and flushes a device of its own.
-fn disturb<R: Wait>(rt: &R, server: &Server, pass: &mut Pass, port: &mut Port)
+fn disturb<R: Wait, A: Allocator + Copy>(
+    rt: &R,
+    server: &Server<A>,
+    pass: &mut Pass<A>,
+    port: &mut Port<A>,
+)
     requires { IsPassOf server.now pass.old × IsPortOf server.now port.old }
     ensures { IsPassOf server.now pass.new × IsPortOf server.now port.new }
 {
@@ -98,11 +103,11 @@ fn work_at_once<R: Threads + Wait + Sync>(
 }
 
 // The key of the last device, and two passes.
-fn ninth(
-    server: &Server,
-    passes: &mut Vec<Pass>,
-    keys: &mut Vec<PortKey>,
-) -> Option<(PortKey, Pass, Pass)>
+fn ninth<A: Allocator + Copy>(
+    server: &Server<A>,
+    passes: &mut Vec<Pass<A>>,
+    keys: &mut Vec<PortKey<A>>,
+) -> Option<(PortKey<A>, Pass<A>, Pass<A>)>
     requires passes { OwnsAll server.now.lock passes.old.items }
     requires keys { AreKeys server.now keys.old.items }
     ensures taken { IfSome result (λ r. IsKeyOf server.now r.0 × IsPassOf server.now r.1 × IsPassOf server.now r.2) }
@@ -120,7 +125,11 @@ fn ninth(
 }
 
 // Puts the pass behind the others, if there is memory.
-fn put_last(server: &Server, passes: &mut Vec<Pass>, pass: Pass) -> bool
+fn put_last<A: Allocator + Copy>(
+    server: &Server<A>,
+    passes: &mut Vec<Pass<A>>,
+    pass: Pass<A>,
+) -> bool
     requires { OwnsAll server.now.lock passes.old.items × IsPassOf server.now pass }
     ensures { OwnsAll server.now.lock passes.new.items }
 {
@@ -129,7 +138,10 @@ fn put_last(server: &Server, passes: &mut Vec<Pass>, pass: Pass) -> bool
 }
 
 // The pass of the last worker that came back, and its results.
-fn last_finished(server: &Server, finished: &mut Vec<Finished>) -> Option<(Pass, Vec<JobResult>)>
+fn last_finished<A: Allocator + Copy>(
+    server: &Server<A>,
+    finished: &mut Vec<Finished<A>>,
+) -> Option<(Pass<A>, Vec<JobResult>)>
     requires { AllBack server.now finished.old.items }
     ensures taken { IfSome result (λ r. IsPassOf server.now r.0) }
     ensures left { AllBack server.now finished.new.items }
@@ -146,11 +158,11 @@ fn last_finished(server: &Server, finished: &mut Vec<Finished>) -> Option<(Pass,
 }
 
 // Puts the passes of the workers behind the others, and hands on their results, the last worker's first.
-fn taken_apart(
+fn taken_apart<A: Allocator + Copy>(
     alloc: Global,
-    server: &Server,
-    mut finished: Vec<Finished>,
-    passes: &mut Vec<Pass>,
+    server: &Server<A>,
+    mut finished: Vec<Finished<A>>,
+    passes: &mut Vec<Pass<A>>,
 ) -> Vec<Vec<JobResult>>
     requires back { AllBack server.now finished.items }
     requires passes { OwnsAll server.now.lock passes.old.items }

@@ -15,7 +15,7 @@ use iofd_words::{
     SourceId, SpanList, UserNo, Width,
 };
 use shared_iommufd::{Pass, PortKey, Server};
-use std::alloc::Global;
+use std::alloc::{Allocator, Global};
 use std::sync::Wait;
 
 fn devices(alloc: Global, count: u16) -> Vec<DeviceConfig> {
@@ -45,24 +45,16 @@ pub(crate) fn config(alloc: Global, count: u16) -> Option<Config> {
     }
 }
 
-// What is there before the devices are at work.
-#[derive(Clone, Copy)]
-enum Step {
-    Page,
-    Space,
-    Map,
-    Bind(DeviceNo),
-}
-
-fn act(step: Step) -> Act
+// What is there before the devices are at work: a page, an address space, the page mapped in it, and each device bound.
+fn act<A: Allocator>(step: u16) -> Act<A>
     ensures event { event_of_port result.event ≡ false }
     ensures via { result.via ≡ None }
 {
     let event = match step {
-        Step::Page => Event::UserMap(UserNo(1), 0x10000),
-        Step::Space => Event::IoasAlloc(FileNo(1)),
-        Step::Map => Event::Map(FileNo(1), mapping(Iova(0x1000))),
-        Step::Bind(device) => Event::Bind(FileNo(1), device),
+        0 => Event::UserMap(UserNo(1), 0x10000),
+        1 => Event::IoasAlloc(FileNo(1)),
+        2 => Event::Map(FileNo(1), mapping(Iova(0x1000))),
+        _ => Event::Bind(FileNo(1), DeviceNo(step - 2)),
     };
     Act { event, via: None }
 }
@@ -78,7 +70,12 @@ pub(crate) fn mapping(iova: Iova) -> MapRequest {
     }
 }
 
-fn make<R: Wait>(rt: &R, server: &Server, pass: &mut Pass, step: Step) -> bool
+fn make<R: Wait, A: Allocator + Copy>(
+    rt: &R,
+    server: &Server<A>,
+    pass: &mut Pass<A>,
+    step: u16,
+) -> bool
     requires { IsPassOf server.now pass.old }
     ensures { IsPassOf server.now pass.new }
 {
@@ -89,22 +86,27 @@ fn make<R: Wait>(rt: &R, server: &Server, pass: &mut Pass, step: Step) -> bool
 }
 
 // Maps page 1 and binds the devices, which are so many.
-pub(crate) fn make_all<R: Wait>(rt: &R, server: &Server, pass: &mut Pass, count: u16) -> bool
+pub(crate) fn make_all<R: Wait, A: Allocator + Copy>(
+    rt: &R,
+    server: &Server<A>,
+    pass: &mut Pass<A>,
+    count: u16,
+) -> bool
     requires { IsPassOf server.now pass.old }
     ensures { IsPassOf server.now pass.new }
 {
-    let mut all = make(rt, server, pass, Step::Page)
-        && make(rt, server, pass, Step::Space)
-        && make(rt, server, pass, Step::Map);
-    for before in 0..count {
-        let device = DeviceNo(before.saturating_add(1));
-        all = make(rt, server, pass, Step::Bind(device)) && all;
+    let mut all = true;
+    for step in 0..count.saturating_add(3) {
+        all = make(rt, server, pass, step) && all;
     }
     all
 }
 
 // The last of the passes.
-pub(crate) fn last_pass(server: &Server, passes: &mut Vec<Pass>) -> Option<Pass>
+pub(crate) fn last_pass<A: Allocator + Copy>(
+    server: &Server<A>,
+    passes: &mut Vec<Pass<A>>,
+) -> Option<Pass<A>>
     requires { OwnsAll server.now.lock passes.old.items }
     ensures taken { IfSome result (IsPassOf server.now) }
     ensures left { OwnsAll server.now.lock passes.new.items }
@@ -114,7 +116,10 @@ pub(crate) fn last_pass(server: &Server, passes: &mut Vec<Pass>) -> Option<Pass>
 }
 
 // The last of the keys.
-pub(crate) fn last_key(server: &Server, keys: &mut Vec<PortKey>) -> Option<PortKey>
+pub(crate) fn last_key<A: Allocator + Copy>(
+    server: &Server<A>,
+    keys: &mut Vec<PortKey<A>>,
+) -> Option<PortKey<A>>
     requires { AreKeys server.now keys.old.items }
     ensures taken { IfSome result (IsKeyOf server.now) }
     ensures left { AreKeys server.now keys.new.items }
@@ -124,7 +129,14 @@ pub(crate) fn last_key(server: &Server, keys: &mut Vec<PortKey>) -> Option<PortK
 }
 
 // The worker of the key's device, with so many jobs.
-fn worker(alloc: Global, server: &Server, key: PortKey, pass: Pass, seed: u32, count: u32) -> Worker
+fn worker<A: Allocator + Copy>(
+    alloc: Global,
+    server: &Server<A>,
+    key: PortKey<A>,
+    pass: Pass<A>,
+    seed: u32,
+    count: u32,
+) -> Worker<A>
     requires key { IsKeyOf server.now key }
     requires owned { IsPassOf server.now pass }
     ensures { CanRun server.now result }
@@ -135,7 +147,11 @@ fn worker(alloc: Global, server: &Server, key: PortKey, pass: Pass, seed: u32, c
 }
 
 // Puts the worker behind the others, if there is memory.
-fn add(server: &Server, workers: &mut Vec<Worker>, worker: Worker) -> bool
+fn add<A: Allocator + Copy>(
+    server: &Server<A>,
+    workers: &mut Vec<Worker<A>>,
+    worker: Worker<A>,
+) -> bool
     requires { AllCanRun server.now workers.old.items × CanRun server.now worker }
     ensures { AllCanRun server.now workers.new.items }
 {
@@ -144,14 +160,14 @@ fn add(server: &Server, workers: &mut Vec<Worker>, worker: Worker) -> bool
 }
 
 // A worker for each key, with so many jobs, by passes that are taken off the list; the last key's comes first.
-pub(crate) fn workers(
+pub(crate) fn workers<A: Allocator + Copy>(
     alloc: Global,
-    server: &Server,
-    keys: &mut Vec<PortKey>,
-    passes: &mut Vec<Pass>,
+    server: &Server<A>,
+    keys: &mut Vec<PortKey<A>>,
+    passes: &mut Vec<Pass<A>>,
     seed: u32,
     count: u32,
-) -> Vec<Worker>
+) -> Vec<Worker<A>>
     requires keys { AreKeys server.now keys.old.items }
     requires passes { OwnsAll server.now.lock passes.old.items }
     ensures can { AllCanRun server.now result.items }

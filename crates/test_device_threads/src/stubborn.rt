@@ -14,7 +14,7 @@ use iofd_words::{
     Query, Refusal, Reply, SourceId, SpanList, UnmapRequest, UserNo, Width,
 };
 use shared_iommufd::{Pass, Port, PortKey, Server};
-use std::alloc::Global;
+use std::alloc::{Allocator, Global};
 use std::sync::Wait;
 
 const PAGE: Iova = Iova(0x1000);
@@ -30,7 +30,7 @@ enum Change {
     Bind(FileNo, DeviceNo),
 }
 
-fn act(change: Change) -> Act
+fn act<A: Allocator>(change: Change) -> Act<A>
     ensures event { event_of_port result.event ≡ false }
     ensures via { result.via ≡ None }
 {
@@ -52,13 +52,75 @@ fn act(change: Change) -> Act
     Act { event, via: None }
 }
 
-fn reply<R: Wait>(rt: &R, server: &Server, pass: &mut Pass, change: Change) -> Option<Reply>
-    requires { IsPassOf server.now pass.old }
-    ensures { IsPassOf server.now pass.new }
-{
-    match server.call(rt, pass, &act(change)) {
-        Ok(stamp) => Some(stamp.reply),
-        Err(_) => None,
+// What a pass does.
+trait Call {
+    fn reply(&mut self, change: Change) -> Option<Reply>;
+
+    fn free_frames(&mut self) -> Answer;
+}
+
+// What a device does.
+trait Work {
+    fn is_attached(&mut self) -> bool;
+
+    fn is_flushed(&mut self) -> bool;
+
+    // Whether it writes this byte into its page.
+    fn is_written(&mut self, byte: u8) -> bool;
+
+    // Whether it reads this byte of its page.
+    fn is_read(&mut self, byte: u8) -> bool;
+}
+
+// A pass of this server.
+#[derive(Drop)]
+struct OfPass<'a, R: Wait> {
+    rt: &'a R,
+    server: &'a Server,
+    pass: Pass,
+    ghost owned: { IsPassOf server.now pass },
+}
+
+// A port of this server.
+#[derive(Drop)]
+struct OfPort<'a, R: Wait> {
+    rt: &'a R,
+    server: &'a Server,
+    port: Port,
+    ghost owned: { IsPortOf server.now port },
+}
+
+impl<'a, R: Wait> Call for OfPass<'a, R> {
+    fn reply(&mut self, change: Change) -> Option<Reply> {
+        match self.server.call(self.rt, &mut self.pass, &act(change)) {
+            Ok(stamp) => Some(stamp.reply),
+            Err(_) => None,
+        }
+    }
+
+    fn free_frames(&mut self) -> Answer {
+        self.server
+            .look(self.rt, &mut self.pass, &Query::FreeFrames)
+    }
+}
+
+impl<'a, R: Wait> Work for OfPort<'a, R> {
+    fn is_attached(&mut self) -> bool {
+        self.port.attach(self.rt, self.server, SPACE).is_ok()
+    }
+
+    fn is_flushed(&mut self) -> bool {
+        self.port.flush(self.rt, self.server).is_ok()
+    }
+
+    fn is_written(&mut self, byte: u8) -> bool {
+        self.port.write(self.rt, self.server, PAGE, &[byte]).is_ok()
+    }
+
+    fn is_read(&mut self, byte: u8) -> bool {
+        let mut buffer = [0; 1];
+        let read = self.port.read(self.rt, self.server, PAGE, &mut buffer);
+        read.is_ok() && buffer == [byte]
     }
 }
 
@@ -75,12 +137,9 @@ static CHANGES: [(Change, Reply); 8] = [
     (Change::Bind(FileNo(3), DeviceNo(2)), Reply::Id(ObjId(2))),
 ];
 
-fn make_all<R: Wait>(rt: &R, server: &Server, pass: &mut Pass) -> bool
-    requires { IsPassOf server.now pass.old }
-    ensures { IsPassOf server.now pass.new }
-{
+fn make_all<C: Call>(caller: &mut C) -> bool {
     for (change, expected) in &CHANGES {
-        if reply(rt, server, pass, *change) != Some(*expected) {
+        if caller.reply(*change) != Some(*expected) {
             return false;
         }
     }
@@ -88,18 +147,14 @@ fn make_all<R: Wait>(rt: &R, server: &Server, pass: &mut Pass) -> bool
 }
 
 // Whether an UNMAP of the first file's page waits: for a hundred calls it is to be asked again, and then it can't go on.
-fn waits<R: Wait>(rt: &R, server: &Server, pass: &mut Pass) -> bool
-    requires { IsPassOf server.now pass.old }
-    ensures { IsPassOf server.now pass.new }
-{
+fn waits<C: Call>(caller: &mut C) -> bool {
     for call in 0..105 {
         let errno = if call < 100 {
             Errno::EAGAIN
         } else {
             Errno::EDEADLOCK
         };
-        let told = reply(rt, server, pass, Change::Unmap(FileNo(1)));
-        if told != Some(Reply::Pending(errno)) {
+        if caller.reply(Change::Unmap(FileNo(1))) != Some(Reply::Pending(errno)) {
             return false;
         }
     }
@@ -108,19 +163,10 @@ fn waits<R: Wait>(rt: &R, server: &Server, pass: &mut Pass) -> bool
 
 // How many pages the first user gets from there on, until no frame is free. None if another refusal comes, or a page gets
 // this frame.
-fn pages_given<R: Wait>(
-    rt: &R,
-    server: &Server,
-    pass: &mut Pass,
-    from: u64,
-    held: Option<FrameNo>,
-) -> Option<u64>
-    requires { IsPassOf server.now pass.old }
-    ensures { IsPassOf server.now pass.new }
-{
+fn pages_given<C: Call>(caller: &mut C, from: u64, held: Option<FrameNo>) -> Option<u64> {
     for count in 0..16u64 {
         let va = from.saturating_add(0x1000 * count);
-        match reply(rt, server, pass, Change::Page(UserNo(1), va)) {
+        match caller.reply(Change::Page(UserNo(1), va)) {
             Some(Reply::Frame(frame)) if Some(frame) != held => {}
             Some(
                 Reply::Refused(
@@ -135,71 +181,38 @@ fn pages_given<R: Wait>(
     None
 }
 
-// Whether the port reads this byte of its page.
-fn reads<R: Wait>(rt: &R, server: &Server, port: &mut Port, byte: u8) -> bool
-    requires { IsPortOf server.now port.old }
-    ensures { IsPortOf server.now port.new }
-{
-    let mut buffer = [0; 1];
-    port.read(rt, server, PAGE, &mut buffer).is_ok() && buffer == [byte]
-}
-
 // Attaches the device, and has it write a byte into its page and read it.
-fn begins<R: Wait>(rt: &R, server: &Server, port: &mut Port, byte: u8) -> bool
-    requires { IsPortOf server.now port.old }
-    ensures { IsPortOf server.now port.new }
-{
-    port.attach(rt, server, SPACE).is_ok()
-        && port.write(rt, server, PAGE, &[byte]).is_ok()
-        && reads(rt, server, port, byte)
+fn begins<D: Work>(device: &mut D, byte: u8) -> bool {
+    device.is_attached() && device.is_written(byte) && device.is_read(byte)
 }
 
-// Whether 8 frames are free.
-fn are_eight_free<R: Wait>(rt: &R, server: &Server, pass: &mut Pass) -> bool
-    requires { IsPassOf server.now pass.old }
-    ensures { IsPassOf server.now pass.new }
-{
-    server.look(rt, pass, &Query::FreeFrames) == Answer::Count(8)
-}
-
-// Whether both devices are attached and have read their pages.
-fn begin<R: Wait>(
-    rt: &R,
-    server: &Server,
-    pass: &mut Pass,
-    first: &mut Port,
-    second: &mut Port,
-) -> bool
-    requires pass { IsPassOf server.now pass.old }
-    requires ports { IsPortOf server.now first.old × IsPortOf server.now second.old }
-    ensures pass { IsPassOf server.now pass.new }
-    ensures ports { IsPortOf server.now first.new × IsPortOf server.now second.new }
-{
-    make_all(rt, server, pass)
-        && begins(rt, server, first, 0x11)
-        && begins(rt, server, second, 0x22)
-        && are_eight_free(rt, server, pass)
+// Whether both devices are attached and have read their pages, and 8 frames are free.
+fn begin<C: Call, D: Work>(caller: &mut C, first: &mut D, second: &mut D) -> bool {
+    make_all(caller)
+        && begins(first, 0x11)
+        && begins(second, 0x22)
+        && caller.free_frames() == Answer::Count(8)
 }
 
 // Whether while an UNMAP waits for the first device its page's frame isn't given out, and the second reads on.
-fn keeps<R: Wait>(rt: &R, server: &Server, pass: &mut Pass, second: &mut Port) -> bool
-    requires { IsPassOf server.now pass.old × IsPortOf server.now second.old }
-    ensures { IsPassOf server.now pass.new × IsPortOf server.now second.new }
-{
-    waits(rt, server, pass)
-        && reads(rt, server, second, 0x22)
-        && reply(rt, server, pass, Change::GiveUp(UserNo(1), 0x10000)) == Some(Reply::Done)
-        && pages_given(rt, server, pass, 0x20000, Some(FrameNo(0))) == Some(8)
-        && reads(rt, server, second, 0x22)
+fn keeps<C: Call, D: Work>(caller: &mut C, second: &mut D) -> bool {
+    waits(caller)
+        && second.is_read(0x22)
+        && caller.reply(Change::GiveUp(UserNo(1), 0x10000)) == Some(Reply::Done)
+        && pages_given(caller, 0x20000, Some(FrameNo(0))) == Some(8)
+        && second.is_read(0x22)
 }
 
 // Whether once it has flushed its page's frame and two of tables are free again.
-fn lets_go<R: Wait>(rt: &R, server: &Server, pass: &mut Pass, first: &mut Port) -> bool
-    requires { IsPassOf server.now pass.old × IsPortOf server.now first.old }
-{
-    first.flush(rt, server).is_ok()
-        && reply(rt, server, pass, Change::Unmap(FileNo(1))) == Some(Reply::Bytes(0x1000))
-        && pages_given(rt, server, pass, 0x40000, None) == Some(3)
+fn lets_go<C: Call, D: Work>(caller: &mut C, first: &mut D) -> bool {
+    first.is_flushed()
+        && caller.reply(Change::Unmap(FileNo(1))) == Some(Reply::Bytes(0x1000))
+        && pages_given(caller, 0x40000, None) == Some(3)
+}
+
+// Whether all this holds of a new server.
+fn are_served<C: Call, D: Work>(caller: &mut C, first: &mut D, second: &mut D) -> bool {
+    begin(caller, first, second) && keeps(caller, second) && lets_go(caller, first)
 }
 
 fn device(alloc: Global, source: u16, width: Width, x86: bool) -> DeviceConfig {
@@ -232,7 +245,11 @@ fn config(alloc: Global) -> Option<Config> {
 }
 
 // The port of the device whose key stands last.
-fn last_port(server: &Server, passes: &mut Vec<Pass>, keys: &mut Vec<PortKey>) -> Option<Port>
+fn last_port<A: Allocator + Copy>(
+    server: &Server<A>,
+    passes: &mut Vec<Pass<A>>,
+    keys: &mut Vec<PortKey<A>>,
+) -> Option<Port<A>>
     requires passes { OwnsAll server.now.lock passes.old.items }
     requires keys { AreKeys server.now keys.old.items }
     ensures port { IfSome result (IsPortOf server.now) }
@@ -245,24 +262,33 @@ fn last_port(server: &Server, passes: &mut Vec<Pass>, keys: &mut Vec<PortKey>) -
     }
 }
 
-// Whether all this holds of a new server.
+// Whether the first two devices and a pass of a server are served so.
 fn holds_of_new<R: Wait>(
     rt: &R,
     server: &Server,
-    passes: &mut Vec<Pass>,
-    keys: &mut Vec<PortKey>,
+    mut passes: Vec<Pass>,
+    mut keys: Vec<PortKey>,
 ) -> bool
-    requires passes { OwnsAll server.now.lock passes.old.items }
-    requires keys { AreKeys server.now keys.old.items }
+    requires passes { OwnsAll server.now.lock passes.items }
+    requires keys { AreKeys server.now keys.items }
 {
-    let _third = last_key(server, keys);
-    let second = last_port(server, passes, keys);
-    let first = last_port(server, passes, keys);
-    match (first, second, last_pass(server, passes)) {
-        (Some(mut first), Some(mut second), Some(mut pass)) => {
-            begin(rt, server, &mut pass, &mut first, &mut second)
-                && keeps(rt, server, &mut pass, &mut second)
-                && lets_go(rt, server, &mut pass, &mut first)
+    let _third = last_key(server, &mut keys);
+    let second = last_port(server, &mut passes, &mut keys);
+    let first = last_port(server, &mut passes, &mut keys);
+    match (first, second, last_pass(server, &mut passes)) {
+        (Some(first), Some(second), Some(pass)) => {
+            let mut caller = OfPass { rt, server, pass };
+            let mut first = OfPort {
+                rt,
+                server,
+                port: first,
+            };
+            let mut second = OfPort {
+                rt,
+                server,
+                port: second,
+            };
+            are_served(&mut caller, &mut first, &mut second)
         }
         _ => false,
     }
@@ -271,9 +297,7 @@ fn holds_of_new<R: Wait>(
 fn holds<R: Wait>(rt: &R, alloc: Global) -> bool {
     match config(alloc) {
         Some(config) => match server(alloc, &config) {
-            Some((server, mut passes, mut keys)) => {
-                holds_of_new(rt, &server, &mut passes, &mut keys)
-            }
+            Some((server, passes, keys)) => holds_of_new(rt, &server, passes, keys),
             None => false,
         },
         None => false,

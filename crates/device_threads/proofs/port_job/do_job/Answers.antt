@@ -20,5 +20,6 @@ returns-clause-done g c =
       stretch = grows.stretch;
       made = grows.made;
       at = subst (EndsAt settings q.pass grows.stretch) (sym c.last.ensures) grows.at;
+      last = c.last.ensures;
       same = did.same;
     }

@@ -4,7 +4,7 @@ use Rattle.test_device_threads.proofs.Taken.{put}
 use Rattle.test_device_threads.proofs.opened.add.Goals as goal
 
 pub returns : goal.returns
-returns c =
+returns g c =
     let server = c.args.server.now in
     subst (AllCanRun server) (sym c.push.ensures.items)
     (put (CanRun server) c.args.workers.now.items c.args.worker (is_ok c.push.result) c.requires.0 c.requires.1)

@@ -4,7 +4,7 @@ use Rattle.test_device_threads.specs.Keys.{AreKeys}
 use Rattle.test_device_threads.proofs.opened.workers.Given as goal
 
 abbrev pub invariant-loop : goal.invariant-loop
-invariant-loop l = record {
+invariant-loop g l = record {
   keys : AreKeys l.server l.keys.items;
   passes : OwnsAll l.server.lock l.passes.items;
   can : AllCanRun l.server l.workers.items;

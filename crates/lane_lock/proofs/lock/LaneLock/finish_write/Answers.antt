@@ -134,6 +134,10 @@ returns-in-Ok-clause-commits g c =
           (r.1 ∙ ap (λ l. l ++ r.0 ∷ []) shown) (r.2 ∙ sym c.args.pass.now.stands.1);
     }
 
+pub returns-in-Ok-clause-met : goal.returns-in-Ok-clause-met
+returns-in-Ok-clause-met g c =
+    ap (λ v. v.busy) c.put_back_grown.ensures.back.view ∙ ap (λ v. v.busy) c.drop_shares.ensures.view
+
 pub returns-in-Err-clause-same : goal.returns-in-Err-clause-same
 returns-in-Err-clause-same g c = record {
   table = c.put_back_emptied.ensures.same_seat.0 ∙ c.drop_shares.ensures.same_seat.0;
@@ -153,3 +157,7 @@ pub returns-in-Err-clause-memory : goal.returns-in-Err-clause-memory
 returns-in-Err-clause-memory g c = let held : c.args.pass.now.share ≡ Some c.in-Some.share =
     sym c.take.ensures.value ∙ c.in-Some.is in
     (arc_value c.in-Some.share, (c.in-Some.share, held, refl), c.in-Err.ensures.memory)
+
+pub returns-in-Err-clause-met : goal.returns-in-Err-clause-met
+returns-in-Err-clause-met g c =
+    ap (λ v. v.busy) c.put_back_emptied.ensures.back.view ∙ ap (λ v. v.busy) c.drop_shares.ensures.view

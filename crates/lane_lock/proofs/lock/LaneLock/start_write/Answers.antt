@@ -4,7 +4,7 @@ use Rattle.lane_lock.proofs.Climbs.{met}
 use Rattle.lane_lock.proofs.Guards.{in_front}
 use Rattle.lane_lock.proofs.PassKept.{all_held, key_words, noted_lanes, noted_pass, noted_sees, some_held, some_words}
 use Rattle.lane_lock.proofs.PassKept.{stopped_keeps, stopped_refuses, stopped_sees, word_some, writer_has, writer_keeps}
-use Rattle.lane_lock.proofs.Writes.{climbed_sees, first_pass, stopped_first, stopped_hand, stopped_pass, stopped_share}
+use Rattle.lane_lock.proofs.Writes.{climbed_met, climbed_sees, first_pass, stopped_first, stopped_hand, stopped_pass, stopped_share}
 use Rattle.lane_lock.proofs.Writes.{stopped_stack, took_first}
 use Rattle.lane_lock.proofs.lock.LaneLock.start_write.Goals as goal
 
@@ -192,6 +192,14 @@ returns-in-None-clause-sees g c = let t = c.take_to_write-found.ensures.told.0 c
     let f = took_first g.K.Kept.history g.K.Kept.maker pass.seat.me c.take_to_write-found.new.seat.me m w t.0
     c.in-Some.share t.1 t.2 c.in-Some.ensures.2 c.in-Some.ensures.3 t.3 in
     climbed_sees g.K.Kept.history g.K.Kept.maker pass.seat.me m w c.in-Some.share f c.take_upper.new.seat.me
+    (c.args.self.now.lanes - 1) c.in-None.ensures.told
+
+pub returns-in-None-clause-met : goal.returns-in-None-clause-met
+returns-in-None-clause-met g c = let t = c.take_to_write-found.ensures.told.0 c.if-found-ne0.false in
+    let pass = c.args.pass.now in let m = c.exchange.new.seat.me in let w = 2 * c.from.result + 2 in
+    let f = took_first g.K.Kept.history g.K.Kept.maker pass.seat.me c.take_to_write-found.new.seat.me m w t.0
+    c.in-Some.share t.1 t.2 c.in-Some.ensures.2 c.in-Some.ensures.3 t.3 in
+    climbed_met g.K.Kept.history g.K.Kept.maker pass.seat.me m w c.in-Some.share f c.take_upper.new.seat.me
     (c.args.self.now.lanes - 1) c.in-None.ensures.told
 
 pub returns-in-None-clause-writing : goal.returns-in-None-clause-writing

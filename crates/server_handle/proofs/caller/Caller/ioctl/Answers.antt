@@ -18,5 +18,6 @@ returns c =
           (λ answer. IsDecoded (settings_of s) pass a.file a.number a.bytes.now answer after)) c.deref.ensures
           does.served;
       refused = subst (λ (s : Server Global). IfErr c.try_ioctl.result
-          (RefusesIoctl (lanes_of s.lock) (lane_of pass) (view_of pass) (view_of after))) c.deref.ensures does.refused;
+          (RefusesIoctl a.number a.bytes.now (lanes_of s.lock) (lane_of pass) (view_of pass) (view_of after)))
+          c.deref.ensures does.refused;
     }
