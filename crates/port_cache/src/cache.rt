@@ -10,17 +10,28 @@ use lru::{DefaultHasher, LruCache};
 use std::alloc::{Allocator, Global};
 use std::num::NonZeroUsize;
 
+// Two lines of cache, which many processors fetch together.
+const TWO_LINES: usize = 128;
+
 /// Pages, each with what it is translated to, the most recently used first; and how many turns the device had had when
 /// they were last compared with the server.
 pub struct PortCache<A: Allocator + Copy = Global> {
     pub pages: LruCache<u64, Translation, DefaultHasher, A>,
     pub turns: u64,
+    // Memory that nobody uses. It was taken right after the pages' own, so that what is taken next, the pages of another
+    // port, shares no line of cache with it: each hit writes the pages' order, and ports are used by threads of their
+    // own.
+    apart: Vec<u8, A>,
 }
 
 // Written out, so that it is proved here alone and not in each crate that drops one.
 impl<A: Allocator + Copy> Drop for PortCache<A> {
     fn drop(self) {
-        let PortCache { pages: _, turns: _ } = self;
+        let PortCache {
+            pages: _,
+            turns: _,
+            apart: _,
+        } = self;
     }
 }
 
@@ -54,14 +65,17 @@ impl<A: Allocator + Copy> PortCache<A> {
     ghost use Rattle.std.specs.Prelude.{IfOk};
     ghost use Rattle.std.specs.NonZero.{non_zero_usize_get};
 
-    /// An empty cache of so many pages. Memory for them is taken as they come.
+    /// An empty cache of so many pages. Memory for them is taken as they come, and two lines to be apart from others.
     pub fn new(alloc: A, most: NonZeroUsize) -> Result<PortCache<A>, NoMemory>
         ensures { IfOk result (λ cache. (cache.pages.cap ≡ non_zero_usize_get most) × (cache.pages.entries ≡ [])) }
     {
-        match LruCache::sparse(alloc, most) {
-            Ok(pages) => Ok(PortCache { pages, turns: 0 }),
-            Err(_) => Err(NoMemory),
-        }
+        let pages = LruCache::sparse(alloc, most)?;
+        let apart = Vec::with_capacity(alloc, TWO_LINES)?;
+        Ok(PortCache {
+            pages,
+            turns: 0,
+            apart,
+        })
     }
 
     /// What is kept of the address's page, with the right; nothing where the device has had another turn since.

@@ -6,7 +6,7 @@ ghost use Rattle.shared_iommufd.specs.Ports.{IsKeyOf};
 ghost use Rattle.shared_iommufd.specs.Servers.{IsPassOf};
 ghost use Rattle.server_handle.specs.Given.{AreKeysOf, ArePassesOf};
 
-use crate::device::Device;
+use crate::device::{Device, MARGIN};
 use crate::error::GiveError;
 use iofd_words::{Act, Answer, Config, Event, FileNo, NoMemory, Query};
 use shared_iommufd::{ConfigError, IoctlAnswer, NotNow, Pass, PortKey, Server, Stamp, TryError};
@@ -142,7 +142,12 @@ impl Caller {
         let pass = last_pass(&self.server, &mut self.spare);
         let key = last_key(&self.server, &mut self.keys);
         let port = server.port(key, pass);
-        Ok(Device { server, port })
+        Ok(Device {
+            before: MARGIN,
+            server,
+            port,
+            after: MARGIN,
+        })
     }
 
     /// How many devices' keys this caller has: those of the first devices.

@@ -10,17 +10,31 @@ use shared_iommufd::{Port, PortCause, PortError, Server, Stamp, TryError};
 use std::alloc::Global;
 use std::sync::Arc;
 
+// Two lines of cache that nobody uses, before and behind a port: each of its calls writes it, and what stands beside it
+// is another thread's.
+pub(crate) type Margin = [u64; 16];
+
+pub(crate) const MARGIN: Margin = [0; 16];
+
 /// The port of a device, with a share of its server. Its calls are made one at a time, and none waits.
+#[repr(C)]
 pub struct Device {
+    pub(crate) before: Margin,
     pub(crate) server: Arc<Server, Global>,
     pub(crate) port: Port,
+    pub(crate) after: Margin,
     ghost owned: { IsPortOf (arc_value server) port },
 }
 
 // Written out, so that it is proved here alone and not in each crate that drops one.
 impl Drop for Device {
     fn drop(self) {
-        let Device { server: _, port: _ } = self;
+        let Device {
+            before: _,
+            server: _,
+            port: _,
+            after: _,
+        } = self;
     }
 }
 
