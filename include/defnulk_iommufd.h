@@ -231,12 +231,13 @@ static inline int32_t defnulk_close(struct defnulk_handle *handle) {
 
 /* ---- Calls of callers */
 
-/* Carries out a call of ioctl that the file makes with this number (0x3b80 to 0x3b89 of linux/iommufd.h) and these
-   bytes: the kernel's own structure, and behind it the array that the kernel reads by a pointer (struct
-   iommu_iova_range of IOAS_ALLOW_IOVAS). Pointers in the structure are ignored. What the kernel writes back, the
-   structure with its answer, and behind it the array of IOAS_IOVA_RANGES, stands at the front of `room`, and
-   `written` says how many bytes that is: at most 40, but for IOAS_IOVA_RANGES 32 and 16 for each range that it was
-   given a place for; what of it `room` has no place for isn't written. The rest of `room` stays. 0, or the errno
+/* Carries out a call of ioctl that the file makes with this number (0x3b80 to 0x3b89 of linux/iommufd.h, and 0x3bf0
+   and 0x3bf1, DIRTY_ENABLE and DIRTY_REPORT, of Defnulk's own: docs/SCRIPT.md has their structures) and these bytes:
+   the kernel's own structure, and behind it the array that the kernel reads by a pointer (struct iommu_iova_range of
+   IOAS_ALLOW_IOVAS). Pointers in the structure are ignored. What the kernel writes back, the structure with its
+   answer, and behind it the array of IOAS_IOVA_RANGES or the words of a DIRTY_REPORT, stands at the front of `room`,
+   and `written` says how many bytes that is: at most 64, but for IOAS_IOVA_RANGES 32 and 16 for each range that it
+   was given a place for; what of it `room` has no place for isn't written. The rest of `room` stays. 0, or the errno
    that the kernel's call has, DEFNULK_NOT_NOW, -EBADF, -ENOMEM (a refusal of the server, too: then a limit of pinned
    pages or the pool is at its end); -EINVAL where the room has less than DEFNULK_LEAST_ROOM bytes. An UNMAP that has
    to wait for a device is -EAGAIN, or -EDEADLK after many tries: it is called again once the device's port was

@@ -21,10 +21,11 @@ EVENTS = {
     0x0D: ("AccessDetach", "24"), 0x0E: ("AccessPin", "24881"), 0x0F: ("AccessUnpin", "24881"),
     0x10: ("AccessWrite", "248b"), 0x80: ("Destroy", "24"), 0x81: ("IoasAlloc", "2"), 0x82: ("AllowIovas", "24e"),
     0x83: ("Copy", "2444888"), 0x85: ("Map", "244888"), 0x86: ("Unmap", "2488"), 0x89: ("HwptAlloc", "244"),
+    0xF0: ("DirtyEnable", "241"), 0xF1: ("DirtyClear", "2488"),
 }
 REPLIES = {
     0: ("Done", ""), 1: ("Id", "4"), 2: ("Iova", "8"), 3: ("Bytes", "8"), 4: ("Pending", "1"), 5: ("Frame", "4"),
-    6: ("Passed", "4"), 7: ("Fault", "1"), 8: ("Refused", "1"),
+    6: ("Passed", "4"), 7: ("Fault", "1"), 8: ("Refused", "1"), 9: ("Dirty", "8888"),
 }
 
 

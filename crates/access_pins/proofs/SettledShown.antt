@@ -86,6 +86,7 @@ module _ {A : Type 0} (at : ℕ) (w : World) (s : State A) (tidy : IsTidy at w) 
   settled_shown = record {
     settings = shows.settings;
     limits = settles.limits ∙ shows.limits;
+    dirty = shows.dirty;
     allowed = shows.allowed;
     objects = shows.objects;
     devices = shows.devices;

@@ -3,7 +3,7 @@ use Rattle.std.proofs.Common.{◌≡◌, ℕ, ◌+◌, ◌/◌, ◌^◌, ◌<◌
 use Rattle.std.proofs.Common.{◌∙◌, arith}
 use Rattle.std.proofs.lemmas.Bool.{le-leb}
 use Rattle.iofd_words.specs.Bounds.{Bounds}
-use Rattle.dirty_bitmap.specs.Dirty.{dirty_word, dirty_words, is_page_of, is_reported, word_pages}
+use Rattle.iofd_words.specs.DirtyWords.{dirty_word, dirty_words, is_page_of, is_reported, word_pages}
 use Rattle.dirty_bitmap.specs.Marks.{has_bit}
 use Rattle.dirty_bitmap.proofs.WordBits.{by_bits, has_bit-zero}
 

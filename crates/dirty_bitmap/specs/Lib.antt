@@ -1,3 +1,2 @@
-pub mod Dirty
 pub mod Marks
 pub mod Tracking

@@ -3,7 +3,7 @@
 ghost use Rattle.std.specs.Prelude.{◌≡◌, ◌/◌, ◌==◌, ◌&&◌, ◌||◌, ℕ, true, false, not, IsFalse, OnOk, OnErr};
 ghost use Rattle.iofd_words.specs.declared.numbers.FileNo.{FileNo};
 ghost use Rattle.iofd_words.specs.declared.numbers.ObjId.{ObjId};
-ghost use Rattle.dirty_bitmap.specs.Dirty.{dirty_words, is_page_of, is_told};
+ghost use Rattle.iofd_words.specs.DirtyWords.{dirty_words, is_page_of, is_told};
 ghost use Rattle.dirty_bitmap.specs.Tracking.{is_dirty, is_file, is_table, is_tracked};
 
 use crate::marks::{Marks, told};

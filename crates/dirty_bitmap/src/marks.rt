@@ -1,7 +1,7 @@
 //! The marked pages of one page table.
 
 ghost use Rattle.std.specs.Prelude.{◌≡◌, ◌<◌, ◌≤◌, ◌+◌, ◌/◌, ◌^◌, ◌==◌, ◌&&◌, ◌||◌, ℕ, false, not, nat_le, OnOk, OnErr};
-ghost use Rattle.dirty_bitmap.specs.Dirty.{dirty_words, is_page_of, is_told};
+ghost use Rattle.iofd_words.specs.DirtyWords.{dirty_words, is_page_of, is_told};
 ghost use Rattle.dirty_bitmap.specs.Marks.{has_bit, is_marked};
 
 use crate::bits::{add_bits, keep_bits, ones, word_in};

@@ -6,6 +6,7 @@ use Rattle.iofd_words.specs.Answers.{Answers}
 use Rattle.iofd_runs.proofs.KeepsPins.{keeps_pins}
 use Rattle.iofd_runs.proofs.NotRefused.{destroy_passed}
 use Rattle.iofd_runs.proofs.OwnIds.{own_ids-filter}
+use Rattle.dirty_bitmap.specs.Tracking.{Tables}
 use Rattle.frame_memory.specs.Pool.{FramePool}
 use Rattle.user_memory_rows.proofs.FramesFollow.{translated_same}
 use Rattle.user_memory_rows.proofs.Gone.{objects_left, over_parts, released_none, table_lost, translated_parts}
@@ -21,6 +22,7 @@ use Rattle.iofd_words.specs.After.{settle, without_areas, changed}
 use Rattle.iofd_words.specs.Areas.{areas_of, is_of}
 use Rattle.iofd_words.specs.Checks.{destroy_checks, is_device_object, is_used}
 use Rattle.iofd_rows.specs.Ids.{have_own_ids}
+use Rattle.iofd_words.specs.Dirty.{without_tracked}
 use Rattle.iofd_words.specs.FirstTrue.{first_true}
 use Rattle.iofd_words.specs.Objects.{has_access_to, has_hwpt, has_ioas, is_bound_as, is_bound_device, is_hwpt}
 use Rattle.iofd_words.specs.Objects.{is_hwpt_over, is_ioas, is_object, kind_of, without_object}
@@ -60,7 +62,7 @@ use Rattle.server_state.proofs.SpacesGone.{other_goes}
 use Rattle.server_state.proofs.ObjectsGone.{may_go, objects-removed}
 use Rattle.server_state.specs.Held.{is_proper, areas_at, object_of, objects_in}
 use Rattle.server_state.specs.Mapping.{own_areas, untranslated_pins}
-use Rattle.server_state.specs.Shows.{ObjectsShown, Shows}
+use Rattle.server_state.specs.Shows.{DirtyShown, ObjectsShown, Shows}
 use Rattle.server_state.specs.Users.{AccessSpaces, AreCounted, accesses_to, devices_on, tables_over, users_at}
 use Rattle.server_state.specs.Step.{IsTidy}
 use Rattle.server_state.specs.TableGone.{HasLostTable, IsTableGone}
@@ -237,6 +239,7 @@ gone w file id =
     settle w (record (without_areas (is_of file id) w) {
       objects = without_object file id w.objects;
       allowed = without_allowed file id w.allowed;
+      tracked = without_tracked file id w.tracked;
     })
 
 -- nothing stands on it
@@ -289,7 +292,8 @@ module _ {A : Type 0} where
   -- the object is gone, where page tables have these rows in the pool before memory objects are let go of
   pub shows_destroyed : (at : ℕ) (w : World) (s : State A) (file : FileNo) (id : ObjId) (k : ObjectKind)
       (table : Table (Held A)) (areas pins : ℕ
-      → ℕ) (memory : Memory) (before pool : FramePool) (allowed : List AllowedRanges) (kept : List TableFrame)
+      → ℕ) (memory : Memory) (before pool : FramePool) (allowed : List AllowedRanges) (dirty : Tables)
+      (kept : List TableFrame)
       (tables : PageTables) → IsTidy at w → Shows w s → first_true (destroy_checks (view w) file id) ≡ None
       → kind_of w.objects file id ≡ Some k → is_bound_device k ≡ false
       → ObjectsShown w.settings w.closed (without_object file id w.objects) w.attachments
@@ -302,16 +306,18 @@ module _ {A : Type 0} where
       → AreFewer areas pins w (without_object file id w.objects)
       (filter (λ (area : Area). not (is_of file id area)) w.areas)
       → IsReleased areas pins s.memory memory before pool → allowed ≡ without_allowed file id s.allowed
+      → DirtyShown (without_tracked file id w.tracked) dirty
       → Shows (record (gone w file id) { table_frames = kept }) (record s {
         objects = table;
         allowed = allowed;
+        dirty = dirty;
         page_tables = tables;
         memory = memory;
         pool = pool;
       })
   unfolding settle without_areas changed Answers
-  shows_destroyed at w s file id k table areas pins memory before pool allowed kept tables tidy shows none is_kind
-      no_device objects shown stand are widths stay fewer released forgets =
+  shows_destroyed at w s file id k table areas pins memory before pool allowed dirty kept tables tidy shows none is_kind
+      no_device objects shown stand are widths stay fewer released forgets marks =
       let next : ArePinned (at + 1) (gone w file id) =
       keeps_pins {A = A} at w (event.Destroy file id) reply.Done none tt tidy.pins in
       let held = each_held w.objects w.areas w.access_pins tidy.pins.held in
@@ -335,6 +341,7 @@ module _ {A : Type 0} where
         allowed = λ f i. allowed_without file id w.allowed f i
             ∙ ap (cond (is_of_space file id f i) []) (shows.allowed f i) ∙ sym (allowed_without file id s.allowed f i)
             ∙ ap (λ (rows : List AllowedRanges). allowed_of rows f i) (sym forgets);
+        dirty = marks;
         users = after.users;
         pins = after.pins;
         access_pins = shown_still w.objects (without_object file id w.objects) w.areas w.access_pins s.access_pins
@@ -421,15 +428,17 @@ module _ {A : Type 0} where
     same_among = no_table_goes w.objects file id tidy.ids kind.Ioas space_kind refl
 
     pub space_destroyed : (table : Table (Held A)) (memory : Memory) (pool : FramePool) (allowed : List AllowedRanges)
+        (dirty : Tables)
         → (destroy_refusal s.objects file tablekind.Ioas id ≡ None → table.rows ≡ removed file id s.objects.rows)
         → table.files ≡ s.objects.files
         → IsReleased (over (own_areas s.objects file id)) never s.memory memory s.pool pool
-        → allowed ≡ without_allowed file id s.allowed
-        → Shows (gone w file id) (record s { objects = table; allowed = allowed; memory = memory; pool = pool })
+        → allowed ≡ without_allowed file id s.allowed → DirtyShown (without_tracked file id w.tracked) dirty
+        → Shows (gone w file id)
+        (record s { objects = table; allowed = allowed; dirty = dirty; memory = memory; pool = pool })
     unfolding settle without_areas
-    space_destroyed table memory pool allowed rows files released forgets =
+    space_destroyed table memory pool allowed dirty rows files released forgets marks =
         shows_destroyed at w s file id kind.Ioas table (over (own_areas s.objects file id)) never memory s.pool pool
-        allowed w.table_frames s.page_tables tidy shows none space_kind refl
+        allowed dirty w.table_frames s.page_tables tidy shows none space_kind refl
         (objects_gone w s file id table shows row_gone files
         (λ f i. ap (λ (l : List (Row (Held A))). users_at l f i) row_gone
         ∙ other_goes w.objects w.attachments s.objects.rows shows.objects.counted file id kind.Ioas tidy.ids space_kind
@@ -439,7 +448,7 @@ module _ {A : Type 0} where
         (others_stay w file id tidy.ids space_kind alone.0
         (own_areas s.objects file id) (own_at s.objects file id (orderly at w s tidy shows)
         ∙ sym (shows.objects.spaces file id)))
-        goes released forgets
+        goes released forgets marks
       where
         row_gone : table.rows ≡ removed file id s.objects.rows
         row_gone =
@@ -515,14 +524,15 @@ module _ {A : Type 0} where
     none_on_it = on_tables w.objects w.attachments file id tidy.debts.tables
         (ap (λ (o : Option ObjectKind). elim o as (λ _. Bool) [ Some k ↦ is_hwpt k | None ↦ false ]) access_kind)
 
-    pub access_destroyed : (table : Table (Held A)) (allowed : List AllowedRanges)
+    pub access_destroyed : (table : Table (Held A)) (allowed : List AllowedRanges) (dirty : Tables)
         → (destroy_refusal s.objects file tablekind.Access id ≡ None → table.rows ≡ removed file id s.objects.rows)
         → table.files ≡ s.objects.files → allowed ≡ without_allowed file id s.allowed
-        → Shows (gone w file id) (record s { objects = table; allowed = allowed })
+        → DirtyShown (without_tracked file id w.tracked) dirty
+        → Shows (gone w file id) (record s { objects = table; allowed = allowed; dirty = dirty })
     unfolding settle without_areas
-    access_destroyed table allowed rows files forgets =
+    access_destroyed table allowed dirty rows files forgets marks =
         shows_destroyed at w s file id (kind.Access attached) table never never s.memory s.pool s.pool
-        allowed w.table_frames s.page_tables tidy shows none access_kind refl
+        allowed dirty w.table_frames s.page_tables tidy shows none access_kind refl
         (objects_gone w s file id table shows row_gone files
         (λ f i. ap (λ (l : List (Row (Held A))). users_at l f i) row_gone
         ∙ other_goes w.objects w.attachments s.objects.rows shows.objects.counted file id (kind.Access attached)
@@ -536,7 +546,7 @@ module _ {A : Type 0} where
         (released_none never never s.memory s.pool
         (may_release at w s tidy shows never never (without_object file id w.objects)
         (filter (λ (area : Area). not (is_of file id area)) w.areas) nothing_less))
-        forgets
+        forgets marks
       where
         row_gone : table.rows ≡ removed file id s.objects.rows
         row_gone =
@@ -558,7 +568,7 @@ module _ {A : Type 0} where
 
   -- a page table
   module _ (at : ℕ) (w : World) (s : State A) (file : FileNo) (id ioas : ObjId) (width : Width) (automatic : Bool)
-      (allowed : List AllowedRanges) (tidy : IsTidy at w) (shows : Shows w s)
+      (allowed : List AllowedRanges) (dirty : Tables) (tidy : IsTidy at w) (shows : Shows w s)
       (none : first_true (destroy_checks (view w) file id) ≡ None)
       (is_kind : kind_of (objects_in s.objects) file id ≡ Some (kind.Hwpt ioas width automatic)) where
     of_world : kind_of w.objects file id ≡ Some (kind.Hwpt ioas width automatic)
@@ -568,7 +578,7 @@ module _ {A : Type 0} where
     empty = no_areas w s file id ioas width automatic shows of_world
 
     module _ (table : Table (Held A)) (tables : PageTables) (between : FramePool)
-        (is_gone : IsTableGone file id ioas (record s { allowed = allowed }) table tables between) where
+        (is_gone : IsTableGone file id ioas (record s { allowed = allowed; dirty = dirty }) table tables between) where
       -- the objects without it, and its address space with one user fewer
       leaves : ObjectsShown w.settings w.closed (without_object file id w.objects) w.attachments w.areas table
       leaves = is_gone.objects at w w.attachments w.areas width automatic tidy shows.objects of_world
@@ -648,12 +658,20 @@ module _ {A : Type 0} where
 
       table_destroyed : (memory : Memory) (pool : FramePool)
           → IsReleased never pins_gone s.memory memory between pool → allowed ≡ without_allowed file id s.allowed
+          → DirtyShown (without_tracked file id w.tracked) dirty
           → Shows (record (gone w file id) { table_frames = without_tables file id w.table_frames })
-          (record s { objects = table; allowed = allowed; page_tables = tables; memory = memory; pool = pool })
-      table_destroyed memory pool released forgets =
+          (record s {
+            objects = table;
+            allowed = allowed;
+            dirty = dirty;
+            page_tables = tables;
+            memory = memory;
+            pool = pool;
+          })
+      table_destroyed memory pool released forgets marks =
           shows_destroyed at w s file id (kind.Hwpt ioas width automatic) table never pins_gone memory between pool
-          allowed (without_tables file id w.table_frames) tables tidy shows none of_world refl objects_shown
-          frames_between stand_between tables_here widths_here areas_kept fewer_pins released forgets
+          allowed dirty (without_tables file id w.table_frames) tables tidy shows none of_world refl objects_shown
+          frames_between stand_between tables_here widths_here areas_kept fewer_pins released forgets marks
 
       -- and the record gives the frames back
       table_moves : (via : Option FrameNo) (out given : List FrameNo) (new : State A) → out ≡ []
@@ -671,15 +689,16 @@ module _ {A : Type 0} where
           (gives w.table_frames (leads_of w) shows.tables.stand)) counted
           tt after
 
-    pub shows_lost : (to : State A) → HasLostTable file id ioas (record s { allowed = allowed }) to
-        → allowed ≡ without_allowed file id s.allowed → (via : Option FrameNo) (out given : List FrameNo) → out ≡ []
+    pub shows_lost : (to : State A) → HasLostTable file id ioas (record s { allowed = allowed; dirty = dirty }) to
+        → allowed ≡ without_allowed file id s.allowed → DirtyShown (without_tracked file id w.tracked) dirty → (via : Option FrameNo) (out given : List FrameNo) → out ≡ []
         → IfAllStand s.pool s.page_tables.tables
         (λ frames leads. GivesBack (rows_found frames (hwpt_of s.page_tables.tables file id)) out given)
         → Moves at w file id via given to
-    shows_lost to lost forgets via out given none_out gives =
+    shows_lost to lost forgets marks via out given none_out gives =
         subst (Moves at w file id via given) (sym lost.others)
         (table_moves to.objects to.page_tables lost.between lost.gone via out given _ none_out gives
-        (table_destroyed to.objects to.page_tables lost.between lost.gone to.memory to.pool lost.pins forgets))
+        (table_destroyed to.objects to.page_tables lost.between lost.gone to.memory to.pool lost.pins forgets
+        marks))
 
   -- ---- what was refused
 

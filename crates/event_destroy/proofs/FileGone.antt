@@ -33,7 +33,9 @@ use Rattle.page_table_words.specs.Released.{GivesBack, Releases}
 use Rattle.page_table_words.specs.Rows.{TableRow}
 use Rattle.event_destroy.proofs.RowsCounted.{file_over, file_translated}
 use Rattle.event_destroy.specs.FileAreas.{areas_of_rows, translated_of}
+use Rattle.dirty_bitmap.specs.Tracking.{Tables}
 use Rattle.iofd_words.specs.Allowed.{AllowedRanges, allowed_of}
+use Rattle.iofd_words.specs.Dirty.{TrackedTable}
 use Rattle.iofd_words.specs.Answers.{Answers}
 use Rattle.std.specs.List.{find, filter, list_all, list_any}
 use Rattle.std.proofs.lemmas.Bool.{eqb-true}
@@ -65,7 +67,7 @@ use Rattle.event_destroy.specs.Held.{keeps_open}
 use Rattle.server_state.proofs.SpacesGone.{kind_rows}
 use Rattle.server_state.specs.Held.{is_proper, areas_at, kind_in, object_of, objects_in, table_kind}
 use Rattle.server_state.specs.Users.{users_at}
-use Rattle.server_state.specs.Shows.{Shows}
+use Rattle.server_state.specs.Shows.{DirtyShown, Shows}
 use Rattle.server_state.specs.Step.{IsTidy}
 use Rattle.server_state.specs.Tables.{has_own_width, page_tables_among}
 use Rattle.server_state.specs.declared.held.Held.{Held}
@@ -386,22 +388,25 @@ module _ {A : Type 0} where
             w.table_frames tidy.tabled.owned f
 
         pub shows_closed : (table : Table (Held A)) (attachments : Vec Attachment A) (allowed : List AllowedRanges)
+            (dirty : Tables)
             → (close_refusal s.objects file ≡ None → table ≡ closed s.objects file)
             → attachments.items ≡ filter (λ (a : Attachment). not (eqb a.file.0 file.0)) s.attachments.items
             → allowed ≡ filter (λ (row : AllowedRanges). not (eqb row.file.0 file.0)) s.allowed
+            → DirtyShown (filter (λ (t : TrackedTable). not (eqb t.file.0 file.0)) w.tracked) dirty
             → Shows (record (changed {A = A} at w (event.Close file) reply.Done) {
               table_frames = without_tables_of file
                   w.table_frames;
             }) (record s {
               objects = table;
               allowed = allowed;
+              dirty = dirty;
               page_tables = tables;
               attachments = attachments;
               memory = memory;
               pool = pool;
             })
         unfolding changed settle without_areas Answers
-        shows_closed table attachments allowed closes detached forgets =
+        shows_closed table attachments allowed dirty closes detached forgets marks =
             let is = closes may_close in
             let covered : CoveredAlike w (changed {A = A} at w (event.Close file) reply.Done) =
             accessed_stays {A = A} at w (event.Close file) reply.Done none tt tidy.pins in
@@ -437,6 +442,7 @@ module _ {A : Type 0} where
               allowed = λ f i. allowed_closed file w.allowed f i ∙ ap (cond (eqb f.0 file.0) []) (shows.allowed f i)
                   ∙ sym (allowed_closed file s.allowed f i)
                   ∙ ap (λ (rows : List AllowedRanges). allowed_of rows f i) (sym forgets);
+              dirty = marks;
               users = after.users;
               pins = after.pins;
               access_pins = shown_still w.objects left w.areas w.access_pins s.access_pins

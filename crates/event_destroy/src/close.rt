@@ -58,7 +58,7 @@ fn keeps_open<A: Allocator>(held: &Held<A>) -> bool
 
 /// What it does where nothing refuses it: the file's objects, allowed ranges and attachments go, and its areas with
 /// their memory objects and the pins of their pages. Its page tables give the frames of their tables back, which are
-/// listed by rising number.
+/// listed by rising number, and aren't tracked any more.
 ///
 /// The only error is want of memory for that list, where there are page tables. It leaves the world as it was.
 pub fn commit<A: Allocator>(
@@ -76,6 +76,7 @@ pub fn commit<A: Allocator>(
 {
     reserve_given(state, file, given)?;
     state.allowed.remove_file(file);
+    state.dirty.stop_file(file);
     remove_areas(
         &state.objects,
         &state.page_tables,

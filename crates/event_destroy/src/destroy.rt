@@ -58,8 +58,8 @@ fn is_device(kind: ObjectKind) -> bool
 
 /// What it does where nothing refuses it. An address space goes with its allowed ranges, and with its areas and their
 /// memory objects, of which no page is pinned. A page table gives the frames of its tables back, which are listed by
-/// rising number, and with the last one over an address space the pins of its areas' pages go. An access object that
-/// isn't attached goes, and nothing with it.
+/// rising number, and with the last one over an address space the pins of its areas' pages go; it isn't tracked any more.
+/// An access object that isn't attached goes, and nothing with it.
 ///
 /// The only error is want of memory for that list, where it is a page table. It leaves the world as it was.
 pub fn commit<A: Allocator>(
@@ -78,6 +78,7 @@ pub fn commit<A: Allocator>(
 {
     state.reserve_given(file, id, given)?;
     state.allowed.remove(file, id);
+    state.dirty.stop(file, id);
     match lookups::kind_of(&state.objects, file, id) {
         Some(ObjectKind::Ioas) => {
             // It was refused while it had a page table: so no page of its areas is pinned for it.

@@ -1,19 +1,23 @@
 //! DeviceWrite: a device writes memory.
 
-ghost use Rattle.std.specs.Prelude.{◌≡◌, ℕ};
+ghost use Rattle.std.specs.Prelude.{◌≡◌, ◌/◌, ℕ, IfOk, IsTrue, List, OnErr, OnOk};
 ghost use Rattle.std.specs.Option.{option_map_or};
+ghost use Rattle.iofd_words.specs.Attachments.{attachment_of};
 ghost use Rattle.iofd_words.specs.Files as files;
 ghost use Rattle.iofd_words.specs.Checks.{device_write_checks};
+ghost use Rattle.iofd_words.specs.Dirty.{TrackedTable, marked_by};
 ghost use Rattle.iofd_words.specs.FirstTrue.{first_true};
 ghost use Rattle.iofd_words.specs.Policy as policy;
 ghost use Rattle.iofd_words.specs.declared.event.Event.TheVariants as event;
+ghost use Rattle.event_device_access.specs.Tracked.{tracks_writes_of};
 ghost use Rattle.server_state.specs.Seen.{seen};
-ghost use Rattle.server_state.specs.Step.{ChosenSteps, IsGrantedVia, IsKnown};
+ghost use Rattle.server_state.specs.Shows.{DirtyShown};
+ghost use Rattle.server_state.specs.Step.{ChosenSteps, IsGrantedVia, IsKnown, ShowsSame};
 
 use crate::access;
 use iofd_words::{
-    AccessKind, Burst, Cause, Config, DeviceNo, Fault, FaultReason, FrameNo, Iova, PAGE_SIZE,
-    Reply, SourceId,
+    AccessKind, Attachment, Burst, Cause, Config, DeviceNo, Fault, FaultReason, FrameNo, Iova,
+    NoMemory, PAGE_SIZE, Reply, SourceId,
 };
 use server_state::State;
 use std::alloc::Allocator;
@@ -60,33 +64,62 @@ fn source_of<A: Allocator>(config: &Config<A>, device: DeviceNo) -> SourceId
 }
 
 /// What it does where nothing refuses it. With a cached frame the write passes there; without one it passes
-/// where the policy lets it, and is denied while the device owes the area a flush.
+/// where the policy lets it, and is denied while the device owes the area a flush. Where it passes, the page is marked
+/// if the device's page table is tracked.
+///
+/// The only error is want of memory for the mark, where the page table is tracked. It leaves the world as it was.
 ///
 /// It is part of its caller, so that its reply isn't read back from memory while the bytes that it writes are still on
 /// their way to the cache.
 #[inline(always)]
-pub fn commit<A: Allocator>(
+pub fn commit<A: Allocator + Copy>(
     state: &mut State<A>,
     device: DeviceNo,
     iova: Iova,
     bytes: &Burst,
     via: Option<FrameNo>,
-) -> Reply
+) -> Result<Reply, NoMemory>
     requires { IsGrantedVia (event.DeviceWrite device iova bytes.now) via state.old }
-    ensures { (at : ℕ) → ChosenSteps at (event.DeviceWrite device iova bytes.now) via state.old result state.new }
+    ensures ok { IfOk result (λ reply. (at : ℕ) →
+        ChosenSteps at (event.DeviceWrite device iova bytes.now) via state.old reply state.new) }
+    ensures err { OnErr result (ShowsSame state.old state.new) }
+    ensures memory { OnErr result (IsTrue (tracks_writes_of (seen state.old) device)) }
 {
     match access::given(state, device, iova.0, AccessKind::Write, via) {
         Ok(frame) => {
+            mark(state, device, iova)?;
             let offset = (iova.0 % PAGE_SIZE) as usize;
             state.pool.write(frame, offset, bytes.as_slice());
-            Reply::Passed(frame)
+            Ok(Reply::Passed(frame))
         }
-        Err(reason) => Reply::Fault(fault_of(
+        Err(reason) => Ok(Reply::Fault(fault_of(
             &state.config,
             device,
             iova,
             AccessKind::Write,
             reason,
-        )),
+        ))),
     }
+}
+
+/// Marks the page of the address, where the page table by which the device translates is tracked.
+fn mark<A: Allocator + Copy>(
+    state: &mut State<A>,
+    device: DeviceNo,
+    iova: Iova,
+) -> Result<(), NoMemory>
+    requires { IsKnown state.old }
+    ensures others { state.new ≡ record state.old { dirty = state.new.dirty } }
+    ensures marks { OnOk result ((tracked : List TrackedTable) → DirtyShown tracked state.old.dirty
+        → DirtyShown (marked_by (attachment_of state.old.attachments.items device) (iova.0 / 4096) tracked)
+        state.new.dirty) }
+    ensures err { OnErr result (state.new ≡ state.old) }
+    ensures memory { OnErr result (IsTrue (tracks_writes_of (seen state.old) device)) }
+{
+    let Some(attachment) = state.attachment_of(device) else {
+        // A device that isn't attached writes nothing.
+        return Ok(());
+    };
+    let Attachment { file, hwpt, .. } = *attachment;
+    state.dirty.mark(file, hwpt, iova.0 / PAGE_SIZE)
 }

@@ -17,6 +17,7 @@ shows_rows w s allowed rows shows same =
     record {
       settings = shows.settings;
       limits = shows.limits;
+      dirty = shows.dirty;
       allowed = same;
       objects = shows.objects;
       devices = shows.devices;

@@ -69,6 +69,7 @@ module _ {A : Type 0} where
       record {
         settings = shows.settings;
         limits = shows.limits;
+        dirty = shows.dirty;
         allowed = shows.allowed;
         objects = record {
           rows = shows.objects.rows ∙ sym has.objects;
@@ -231,6 +232,7 @@ module _ {A : Type 0} (w : World) (s : State A) (after : Memory) (pool : FramePo
   shows_unpinned = record {
     settings = shows.settings;
     limits = limits ∙ shows.limits;
+    dirty = shows.dirty;
     allowed = shows.allowed;
     objects = shows.objects;
     devices = shows.devices;

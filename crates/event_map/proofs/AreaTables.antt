@@ -247,6 +247,7 @@ module _ {A : Type 0} (at : ℕ) (w : World) (s : State A) (tidy : IsTidy at w) 
         })) (sym tables_now) (record {
           settings = shows.settings;
           limits = comes.settles.limits ∙ shows.limits;
+          dirty = shows.dirty;
           allowed = shows.allowed;
           objects = shown;
           devices = shows.devices;

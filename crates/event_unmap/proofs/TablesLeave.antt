@@ -289,6 +289,7 @@ module _ {A : Type 0} (at : ℕ) (w : World) (s : State A) (file : FileNo) (requ
     shown = record {
       settings = is.settings;
       limits = is.limits;
+      dirty = is.dirty;
       allowed = is.allowed;
       objects = is.objects;
       devices = is.devices;

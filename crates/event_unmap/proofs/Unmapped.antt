@@ -280,6 +280,7 @@ module _ {A : Type 0} where
               };
               devices = shows.devices;
               limits = shows.limits;
+              dirty = shows.dirty;
               allowed = shows.allowed;
               users = shows.users;
               pins =
@@ -410,6 +411,7 @@ module _ {A : Type 0} where
               record {
                 settings = shows.settings;
                 limits = shown.limits;
+                dirty = shows.dirty;
                 allowed = shows.allowed;
                 objects = record {
                   rows = shows.objects.rows ∙ sym has.objects;

@@ -1,7 +1,7 @@
 -- An attachment that ends: its page table may go with it, and the pins of its address space with the page table.
 use Rattle.std.proofs.Common.{◌≡◌, ℕ, Bool, true, false, ◌&&◌, not, eqb, Option, Some, None, List, [], ◌∷◌, refl, sym}
 use Rattle.std.proofs.Common.{◌∙◌, ap, arith, inl, inr}
-use Rattle.std.specs.List.{filter, list_all}
+use Rattle.std.specs.List.{filter, list_all, list_any}
 use Rattle.std.proofs.lemmas.Bool.Decides.{nat_tests}
 use Rattle.iofd_words.specs.After.{goes_with}
 use Rattle.iofd_words.specs.Attachments.{has_device_on, ioas_of, ioas_of_attachment}
@@ -17,10 +17,10 @@ use Rattle.iofd_words.specs.declared.rows.Object.{Object}
 use Rattle.iofd_words.specs.declared.rows.ObjectKind.{ObjectKind}
 use Rattle.iofd_words.specs.declared.rows.ObjectKind.TheVariants as kind
 use Rattle.iofd_rows.proofs.Bools.{and_true, both_true}
-use Rattle.iofd_rows.proofs.Each.{IsIn, of_all, of_any}
+use Rattle.iofd_rows.proofs.Each.{IsIn, in_found, of_all, of_any}
 use Rattle.iofd_rows.proofs.Found.{find-filter, none_both}
 use Rattle.iofd_rows.proofs.ListTests.{alike, any-filter}
-use Rattle.iofd_rows.proofs.Named.{file_is, id_is, kind_only}
+use Rattle.iofd_rows.proofs.Named.{file_is, id_is, kind_only, object_of_kind}
 use Rattle.iofd_rows.proofs.PageTables.{hwpt-filter, hwpt_alike}
 use Rattle.server_state.proofs.TablesUnreached.{some_one}
 use Rattle.hwpt_device.specs.Attaching.{is_idle}
@@ -70,6 +70,31 @@ none_goes objects others a own busy =
     never : (b : Bool) → (b && false) ≡ false
     never true = refl
     never false = refl
+
+none_any : {X : Type 0} (p : X → Bool) (xs : List X) → ((x : X) → IsIn xs x → p x ≡ false) → list_any p xs ≡ false
+none_any p [] none = refl
+none_any p (x ∷ xs) none = rw (none x (inl refl), none_any p xs (λ y later. none y (inr later))) refl
+
+-- some goes exactly where its page table is an automatic one without a device
+pub some_goes : (objects : List Object) (others : List Attachment) (a : Attachment) (k : ObjectKind)
+    → have_own_ids objects ≡ true → kind_of objects a.file a.hwpt ≡ Some k
+    → list_any (goes_with others a) objects ≡ is_idle objects others a.file a.hwpt
+some_goes objects others a k own there = by_idle (is_idle objects others a.file a.hwpt) refl
+  where
+    by_idle : (b : Bool) → is_idle objects others a.file a.hwpt ≡ b → list_any (goes_with others a) objects ≡ b
+    by_idle true idle =
+        let (object, found, within, of_file, of_id, of_kind) = object_of_kind objects a.file a.hwpt k there in
+        let its_name = (in_found (is_object a.file a.hwpt) objects object found).1 in
+        of_any (goes_with others a) objects object within
+        (goes_is objects others a own object within ∙ both_true _ _ its_name idle)
+    by_idle false busy =
+        none_any (goes_with others a) objects
+        (λ object within. goes_is objects others a own object within
+        ∙ ap (λ b. is_object a.file a.hwpt object && b) busy ∙ never (is_object a.file a.hwpt object))
+      where
+        never : (b : Bool) → (b && false) ≡ false
+        never true = refl
+        never false = refl
 
 pub none_of : (objects : List Object) (others : List Attachment) (a : Attachment) → have_own_ids objects ≡ true
     → is_idle objects others a.file a.hwpt ≡ false → list_all (λ object. not (goes_with others a object)) objects ≡ true

@@ -3,6 +3,8 @@ use Rattle.std.proofs.Common.{◌≡◌, ℕ, Bool, true, false, cond, not, eqb,
 use Rattle.std.proofs.Common.{◌∙◌, ◌&&◌, ltb, ap, subst, ◌+◌, ◌-◌, ◌<◌, arith, Vec, IfSome}
 use Rattle.iofd_rows.specs.Ids.{have_own_ids}
 use Rattle.iofd_words.specs.Checks.{detach_checks}
+use Rattle.dirty_bitmap.specs.Tracking.{Tables}
+use Rattle.iofd_words.specs.Dirty.{TrackedTable, without_tracked}
 use Rattle.iofd_words.specs.FirstTrue.{first_true}
 use Rattle.iofd_words.specs.declared.width.Width.{Width}
 use Rattle.iofd_words.specs.Answers.{Answers}
@@ -22,7 +24,7 @@ use Rattle.user_memory.specs.Memory.{Memory}
 use Rattle.std.specs.Prelude.{IsTrue, is_none}
 use Rattle.std.specs.List.{filter, list_all}
 use Rattle.std.specs.List.Sorted.{IsNonDecreasingBy, IsPermutation}
-use Rattle.iofd_words.specs.After.{changed, detach_changes, detached, goes_with, settle}
+use Rattle.iofd_words.specs.After.{changed, detach_changes, detached, goes_with, settle, tracked_without}
 use Rattle.iofd_words.specs.Areas.{all_paid, areas_of, paid, with_phase}
 use Rattle.iofd_words.specs.Attachments.{attachment_of, ioas_of_attachment, without_attachment}
 use Rattle.iofd_words.specs.Objects.{has_hwpt, has_ioas, is_ioas, kind_of, without_object}
@@ -46,7 +48,7 @@ use Rattle.server_state.specs.Mapping.{own_areas, untranslated_pins}
 use Rattle.hwpt_device.specs.Attaching.{has_no_user, has_one_user, is_automatic_at, is_idle, takes_its_table}
 use Rattle.server_state.specs.Choice.{AreFramesChosen, IsChosen}
 use Rattle.server_state.specs.Leads.{leads_of}
-use Rattle.server_state.specs.Shows.{ObjectsShown, Shows, TablesShown}
+use Rattle.server_state.specs.Shows.{DirtyShown, ObjectsShown, Shows, TablesShown}
 use Rattle.server_state.specs.Spaces.{HasAreas, IsOrderly}
 use Rattle.server_state.specs.Step.{IsTidy}
 use Rattle.server_state.specs.TableGone.{HasLostTable, IsTableGone}
@@ -63,6 +65,7 @@ use Rattle.iofd_words.specs.Attachments.{has_device_on}
 use Rattle.iofd_rows.proofs.Bools.{and_true, not_true}
 use Rattle.std.proofs.lemmas.Bool.Decides.{nat_tests}
 use Rattle.hwpt_device.proofs.Detached.{all_stay, bindings_stay, left_of, none_goes, none_of, one_goes, others_stay}
+use Rattle.hwpt_device.proofs.Detached.{some_goes}
 use Rattle.hwpt_device.proofs.PaidLeads.{paid_leads}
 use Rattle.hwpt_device.proofs.TableGone.{given_rows, named_rows, orphan_rows, tables_kept, tests_kept}
 use Rattle.server_state.proofs.TablesUnreached.{unreached}
@@ -339,18 +342,36 @@ module _ {A : Type 0} where
     unfolding changed
     ends = ap (detach_changes w device) end.found
 
+    -- the page tables that are tracked still, by whether it goes
+    tracked_so : (goes : Bool) → is_idle w.objects (without_attachment device w.attachments) a.file a.hwpt ≡ goes
+        → tracked_without (without_attachment device w.attachments) a w
+        ≡ cond goes (without_tracked a.file a.hwpt w.tracked) w.tracked
+    tracked_so goes is =
+        let (width, automatic, kind_w) = of_world in
+        ap (λ b. cond b (without_tracked a.file a.hwpt w.tracked) w.tracked)
+        (some_goes w.objects (without_attachment device w.attachments) a (kind.Hwpt ioas width automatic) tidy.ids
+        kind_w ∙ is)
+
     -- these rows of tables are left, and the page tables that are kept stand with them where the frames of the others
     -- were given back
     module _ (areas_gone pins_gone : ℕ → ℕ) (rows : List TableFrame) (kept : PageTables) (before : FramePool)
-        (new : Table (Held A)) (memory : Memory) (pool : FramePool)
+        (new : Table (Held A)) (dirty : Tables) (memory : Memory) (pool : FramePool)
         (objects : ObjectsShown w.settings w.closed left (without_attachment device w.attachments)
         (all_paid device w.areas) new)
+        (marks : DirtyShown (tracked_without (without_attachment device w.attachments) a w) dirty)
         (fewer : AreFewer areas_gone pins_gone w left (all_paid device w.areas))
         (frames : FramesShown w.settings.pool w.writes rows s.memory before)
         (tables : TablesShown (record w { objects = left; table_frames = rows }) kept before)
         (released : IsReleased areas_gone pins_gone s.memory memory before pool) where
       pub shows_ended : Shows (record (settle w (detached w device a)) { table_frames = rows })
-          (record s { objects = new; page_tables = kept; attachments = attachments; memory = memory; pool = pool })
+          (record s {
+            objects = new;
+            page_tables = kept;
+            attachments = attachments;
+            dirty = dirty;
+            memory = memory;
+            pool = pool;
+          })
       unfolding settle detached
       shows_ended =
           let next = next_pins at w device a tidy none end.found in
@@ -363,6 +384,7 @@ module _ {A : Type 0} where
             settings = shows.settings;
             limits = after.limits;
             allowed = shows.allowed;
+            dirty = marks;
             objects = objects;
             devices = record {
               bindings =
@@ -403,7 +425,7 @@ module _ {A : Type 0} where
         let stays = none_goes w.objects (without_attachment device w.attachments) a tidy.ids busy_w in
         let fewer = fewer_none w device left (λ f i. ap (λ (l : List Object). has_hwpt l f i) stays) in
         let shown =
-        shows_ended never never w.table_frames s.page_tables s.pool less s.memory s.pool
+        shows_ended never never w.table_frames s.page_tables s.pool less s.dirty s.memory s.pool
         (record {
           rows = stays ∙ less_shown.rows;
           proper = less_shown.proper;
@@ -414,6 +436,7 @@ module _ {A : Type 0} where
               (sym stays);
           accesses = subst AccessSpaces (sym stays) less_shown.accesses;
         })
+        (subst (λ (rows : List TrackedTable). DirtyShown rows s.dirty) (sym (tracked_so false busy_w)) shows.dirty)
         fewer shows.frames
         (record {
           tables = shows.tables.tables ∙ ap page_tables_among (sym stays);
@@ -443,10 +466,10 @@ module _ {A : Type 0} where
 
     -- ---- the page table goes with the attachment
 
-    module _ (new : Table (Held A)) (kept : PageTables) (before : FramePool)
+    module _ (dirty : Tables) (new : Table (Held A)) (kept : PageTables) (before : FramePool)
         (idle : (is_automatic_at (objects_in less) a.file a.hwpt && has_no_user less a.file a.hwpt) ≡ true)
-        (gone : IsTableGone a.file a.hwpt ioas (record s { objects = less; attachments = attachments }) new kept
-        before) where
+        (gone : IsTableGone a.file a.hwpt ioas
+        (record s { objects = less; attachments = attachments; dirty = dirty }) new kept before) where
       idle_w : is_idle w.objects (without_attachment device w.attachments) a.file a.hwpt ≡ true
       idle_w = sym table_tells ∙ idle
 
@@ -568,6 +591,7 @@ module _ {A : Type 0} where
                 objects = new;
                 page_tables = kept;
                 attachments = attachments;
+                dirty = dirty;
                 memory = memory;
                 pool = pool;
               })
@@ -575,6 +599,7 @@ module _ {A : Type 0} where
                 objects = new;
                 page_tables = kept;
                 attachments = attachments;
+                dirty = dirty;
                 memory = memory;
                 pool = pool;
               })
@@ -584,6 +609,7 @@ module _ {A : Type 0} where
                 objects = new;
                 page_tables = kept;
                 attachments = attachments;
+                dirty = dirty;
                 memory = memory;
                 pool = pool;
               } in
@@ -627,7 +653,8 @@ module _ {A : Type 0} where
       may_unpin = may_release_over at w s tidy shows others_rows before frames_left never pins_gone left
           (all_paid device w.areas) fewer_pins
 
-      shows_dropped : (listed given : List FrameNo) → listed ≡ []
+      shows_dropped : DirtyShown (without_tracked a.file a.hwpt w.tracked) dirty
+          → (listed given : List FrameNo) → listed ≡ []
           → IfAllStand s.pool s.page_tables.tables
           (λ frames leads. GivesBack (rows_found frames (hwpt_of s.page_tables.tables a.file a.hwpt)) listed given)
           → (via : Option FrameNo) (memory : Memory) (pool : FramePool)
@@ -636,22 +663,25 @@ module _ {A : Type 0} where
             objects = new;
             page_tables = kept;
             attachments = attachments;
+            dirty = dirty;
             memory = memory;
             pool = pool;
           })
-      shows_dropped listed given nothing gives_back via memory pool released =
+      shows_dropped marks listed given nothing gives_back via memory pool released =
           step listed given nothing gives_back via memory pool
-          (shows_ended never pins_gone others_rows kept before new memory pool objects_shown fewer_pins frames_left
-          tables_left released)
+          (shows_ended never pins_gone others_rows kept before new dirty memory pool objects_shown
+          (subst (λ (rows : List TrackedTable). DirtyShown rows dirty) (sym (tracked_so true idle_w)) marks)
+          fewer_pins frames_left tables_left released)
 
-    pub shows_lost : (to : State A)
+    pub shows_lost : (to : State A) (dirty : Tables) → DirtyShown (without_tracked a.file a.hwpt w.tracked) dirty
         → (is_automatic_at (objects_in less) a.file a.hwpt && has_no_user less a.file a.hwpt) ≡ true
-        → HasLostTable a.file a.hwpt ioas (record s { objects = less; attachments = attachments }) to
+        → HasLostTable a.file a.hwpt ioas
+        (record s { objects = less; attachments = attachments; dirty = dirty }) to
         → (listed given : List FrameNo) → listed ≡ []
         → IfAllStand s.pool s.page_tables.tables
         (λ frames leads. GivesBack (rows_found frames (hwpt_of s.page_tables.tables a.file a.hwpt)) listed given)
         → (via : Option FrameNo) → IsStep at w device via given to
-    shows_lost to idle lost listed given nothing gives_back via =
+    shows_lost to dirty marks idle lost listed given nothing gives_back via =
         subst (IsStep at w device via given) (sym lost.others)
-        (shows_dropped to.objects to.page_tables lost.between idle lost.gone listed given nothing gives_back via
-        to.memory to.pool lost.pins)
+        (shows_dropped dirty to.objects to.page_tables lost.between idle lost.gone marks listed given nothing
+        gives_back via to.memory to.pool lost.pins)

@@ -125,6 +125,7 @@ module _ {A : Type 0} where
         };
         devices = shows.devices;
         limits = shows.limits;
+        dirty = shows.dirty;
         allowed = shows.allowed;
         users = shows.users;
         pins = pins_changed w.objects w.areas w.memory w.pins w.access_pins s.memory

@@ -233,6 +233,7 @@ module _ {A : Type 0} where
           attached = shows.devices.attached;
         };
         limits = shows.limits;
+        dirty = shows.dirty;
         allowed = shows.allowed;
         users = shows.users;
         pins =

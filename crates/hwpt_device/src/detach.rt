@@ -36,7 +36,8 @@ pub fn refusal<A: Allocator>(state: &State<A>, device: DeviceNo) -> Option<Cause
 }
 
 /// What it does where nothing refuses it: the device owes no area a flush any more, and an automatic page table goes
-/// with its last device. The frames of its tables are given back, and are listed by rising number.
+/// with its last device, and isn't tracked any more. The frames of its tables are given back, and are listed by rising
+/// number.
 ///
 /// The only error is want of memory for that list, where a page table goes. It leaves the world as it was.
 pub fn commit<A: Allocator>(
@@ -68,6 +69,7 @@ pub fn commit<A: Allocator>(
     attachments::remove(&mut state.attachments, device);
     counts::one_fewer(&mut state.objects, file, Kind::Hwpt, hwpt);
     if goes {
+        state.dirty.stop(file, hwpt);
         release::remove_page_table(state, file, hwpt, ioas, given);
     }
     Ok(Reply::Done)

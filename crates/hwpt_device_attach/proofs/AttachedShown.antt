@@ -265,6 +265,7 @@ module _ {A : Type 0} where
   more_attached v s table attachments a shows objects added = record {
     settings = shows.settings;
     limits = shows.limits;
+    dirty = shows.dirty;
     allowed = shows.allowed;
     objects = objects;
     devices = record {
@@ -285,6 +286,7 @@ module _ {A : Type 0} where
   room_unseen w s attachments same shows = record {
     settings = shows.settings;
     limits = shows.limits;
+    dirty = shows.dirty;
     allowed = shows.allowed;
     objects = shows.objects;
     devices = record {
@@ -385,6 +387,7 @@ module _ {A : Type 0} where
       record {
         settings = seen.settings;
         limits = seen.limits;
+        dirty = seen.dirty;
         allowed = seen.allowed;
         objects = seen.objects;
         devices = seen.devices;

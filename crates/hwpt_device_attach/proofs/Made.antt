@@ -39,6 +39,7 @@ module _ {A : Type 0} where
       subst (Shows w) (sym others) (record {
         settings = shows.settings;
         limits = shows.limits;
+        dirty = shows.dirty;
         allowed = shows.allowed;
         objects = record {
           rows = shows.objects.rows ∙ ap (map object_of) (sym rows);
@@ -76,6 +77,7 @@ module _ {A : Type 0} where
   shows_stayed w s after pool stays shows = record {
     settings = shows.settings;
     limits = stays.limits ∙ shows.limits;
+    dirty = shows.dirty;
     allowed = shows.allowed;
     objects = shows.objects;
     devices = shows.devices;

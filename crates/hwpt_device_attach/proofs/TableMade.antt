@@ -251,6 +251,7 @@ module _ {A : Type 0} (at : ℕ) (w : World) (s : State A) (tidy : IsTidy at w) 
       (record s { objects = new; page_tables = kept; memory = after; pool = made })) (sym after_is) (record {
         settings = shows.settings;
         limits = more.settles.limits ∙ shows.limits;
+        dirty = shows.dirty;
         allowed = shows.allowed;
         objects = objects;
         devices = record {

@@ -13,6 +13,7 @@ use Rattle.iofd_words.specs.declared.flags.MapFlags.{MapFlags}
 use Rattle.ioctl_codec.specs.declared.command.Command.{Command}
 use Rattle.ioctl_codec.specs.declared.command.Command.TheVariants.{Destroy, IoasAlloc, IoasAllowIovas, IoasCopy}
 use Rattle.ioctl_codec.specs.declared.command.Command.TheVariants.{IoasIovaRanges, IoasMap, IoasUnmap, HwptAlloc}
+use Rattle.ioctl_codec.specs.declared.command.Command.TheVariants.{DirtyEnable, DirtyReport}
 use Rattle.ioctl_codec.specs.Entries.{AreAddresses}
 use Rattle.ioctl_codec.specs.Layout.{AreOfWidth, are_allowed, carried, filled, spelled, length_of, structure_bytes}
 use Rattle.ioctl_codec.specs.Structures.{copy_values, ioas_allow_iovas, ioas_copy, ioas_map, map_values, structure_of}
@@ -60,6 +61,10 @@ are_allowed-canonical (IoasMap m) e =
     are_allowed-map fixed m ∙ p.0
 are_allowed-canonical (IoasUnmap u) e = refl
 are_allowed-canonical (HwptAlloc r) e = refl
+are_allowed-canonical (DirtyEnable hwpt true) e = refl
+are_allowed-canonical (DirtyEnable hwpt false) e = refl
+are_allowed-canonical (DirtyReport r true) e = refl
+are_allowed-canonical (DirtyReport r false) e = refl
 
 carried-map : (fixed : Bool) (m : MapRequest) → (fixed || m.iova.0 == 0) ≡ true
     → carried (ioas_map fixed).fields (map_row fixed m) ≡ map_values m
@@ -89,6 +94,8 @@ carried-canonical (IoasMap m) e =
     carried-map fixed m p.1
 carried-canonical (IoasUnmap u) e = refl
 carried-canonical (HwptAlloc r) e = refl
+carried-canonical (DirtyEnable hwpt on) e = refl
+carried-canonical (DirtyReport r clears) e = refl
 
 -- an address that isn't fixed is read as 0
 kept-map : (fixed : Bool) (m : MapRequest) (bytes : List ℕ) → read_values (ioas_map fixed) bytes ≡ map_values m
@@ -116,6 +123,8 @@ length_at_most (IoasIovaRanges r) = lit≤ tt
 length_at_most (IoasMap m) = lit≤ tt
 length_at_most (IoasUnmap u) = lit≤ tt
 length_at_most (HwptAlloc r) = lit≤ tt
+length_at_most (DirtyEnable hwpt on) = lit≤ tt
+length_at_most (DirtyReport r clears) = lit≤ tt
 
 no_tail : (n : ℕ) → replicate {A = ℕ} (n - n) 0 ≡ []
 no_tail n =
@@ -133,6 +142,8 @@ widths (IoasIovaRanges r) fits spellable = fits
 widths (IoasMap m) fits spellable = fits
 widths (IoasUnmap u) fits spellable = fits
 widths (HwptAlloc r) fits spellable = fits
+widths (DirtyEnable hwpt on) fits spellable = fits
+widths (DirtyReport r clears) fits spellable = fits
 
 addresses : {A : Type 0} (c : Command A) → FitsFields c → AreAddresses (entries_of c)
 addresses (Destroy id) fits = tt
@@ -143,6 +154,8 @@ addresses (IoasIovaRanges r) fits = tt
 addresses (IoasMap m) fits = tt
 addresses (IoasUnmap u) fits = tt
 addresses (HwptAlloc r) fits = tt
+addresses (DirtyEnable hwpt on) fits = tt
+addresses (DirtyReport r clears) fits = tt
 
 -- a canonical spelling, the numbers of the structure and those of the entries being of their widths
 pub canonical_of : {A : Type 0} (c : Command A) → AreOfWidth (structure_of c).fields (canonical_row c)
@@ -201,6 +214,8 @@ spellable-if (IoasMap m) bytes numbers e values fits numbers_are =
     (kept-map fixed m bytes values)
 spellable-if (IoasUnmap u) bytes numbers e values fits numbers_are = refl
 spellable-if (HwptAlloc r) bytes numbers e values fits numbers_are = refl
+spellable-if (DirtyEnable hwpt on) bytes numbers e values fits numbers_are = refl
+spellable-if (DirtyReport r clears) bytes numbers e values fits numbers_are = refl
 
 pub spellable_from : {A : Type 0} (c : Command A) (nr : ℕ) (bytes : List ℕ) → Spells nr bytes c → is_spellable c ≡ true
 spellable_from c nr bytes spells =

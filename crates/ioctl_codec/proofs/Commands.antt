@@ -8,10 +8,12 @@ use Rattle.iofd_words.specs.Rights.{has_flag, is_fixed}
 use Rattle.ioctl_codec.specs.declared.command.Command.{Command}
 use Rattle.ioctl_codec.specs.declared.command.Command.TheVariants.{Destroy, IoasAlloc, IoasAllowIovas, IoasCopy}
 use Rattle.ioctl_codec.specs.declared.command.Command.TheVariants.{IoasIovaRanges, IoasMap, IoasUnmap, HwptAlloc}
+use Rattle.ioctl_codec.specs.declared.command.Command.TheVariants.{DirtyEnable, DirtyReport}
 use Rattle.iofd_words.specs.declared.call_error.CallError.{CallError}
 use Rattle.iofd_words.specs.declared.call_error.CallError.TheVariants as errors
 use Rattle.ioctl_codec.specs.Layout.{Structure, IsLaidOut, entry_count}
-use Rattle.ioctl_codec.specs.Structures.{copy_values, destroy, ioas_alloc, ioas_allow_iovas, ioas_copy}
+use Rattle.ioctl_codec.specs.Structures.{copy_values, destroy, dirty_enable, dirty_report, ioas_alloc}
+use Rattle.ioctl_codec.specs.Structures.{ioas_allow_iovas, ioas_copy}
 use Rattle.ioctl_codec.specs.Structures.{ioas_iova_ranges, ioas_map, map_values, ioas_unmap, hwpt_alloc, structure_of}
 use Rattle.ioctl_codec.specs.Structures.{values_of, entries_of}
 use Rattle.iofd_words.specs.Bounds.{Bounds}
@@ -57,11 +59,17 @@ rebuilt nr values entries =
       device = record { 0 = slice_index values 0 };
       ioas = record { 0 = slice_index values 1 };
     }))
+    (cond (nr == 0x3BF0) (DirtyEnable (record { 0 = slice_index values 0 }) (slice_index values 1 == 1))
+    (cond (nr == 0x3BF1) (DirtyReport (record {
+      hwpt = record { 0 = slice_index values 0 };
+      iova = record { 0 = slice_index values 2 };
+      length = slice_index values 3;
+    }) (slice_index values 1 == 1))
     (IoasUnmap (record {
       ioas = record { 0 = slice_index values 0 };
       iova = record { 0 = slice_index values 1 };
       length = slice_index values 2;
-    }))))))))
+    }))))))))))
 
 -- the structure that bytes with this number have, by their flags if it's a MAP or a COPY
 structure_in : ℕ → List ℕ → Structure
@@ -85,6 +93,8 @@ structure-is (IoasMap m) nr bytes e values =
     (ap (λ (n : ℕ). ioas_map (has_flag n 1)) flags)
 structure-is (IoasUnmap u) nr bytes e values = subst (λ (n : ℕ). ioas_unmap ≡ structure_in n bytes) e refl
 structure-is (HwptAlloc r) nr bytes e values = subst (λ (n : ℕ). hwpt_alloc ≡ structure_in n bytes) e refl
+structure-is (DirtyEnable hwpt on) nr bytes e values = subst (λ (n : ℕ). dirty_enable ≡ structure_in n bytes) e refl
+structure-is (DirtyReport r clears) nr bytes e values = subst (λ (n : ℕ). dirty_report ≡ structure_in n bytes) e refl
 
 -- both structures of a MAP have the same refusals
 pub refusal-map : (fixed : Bool) (bytes : List ℕ) → refusal_of (ioas_map true) bytes ≡ refusal_of (ioas_map fixed) bytes
@@ -114,6 +124,10 @@ refusal-number (IoasMap m) nr bytes e = subst
     (refusal-map (has_flag m.flags.0 1) bytes)
 refusal-number (IoasUnmap u) nr bytes e = subst (λ (n : ℕ). refusal n bytes ≡ refusal_of ioas_unmap bytes) e refl
 refusal-number (HwptAlloc r) nr bytes e = subst (λ (n : ℕ). refusal n bytes ≡ refusal_of hwpt_alloc bytes) e refl
+refusal-number (DirtyEnable hwpt on) nr bytes e =
+    subst (λ (n : ℕ). refusal n bytes ≡ refusal_of dirty_enable bytes) e refl
+refusal-number (DirtyReport r clears) nr bytes e =
+    subst (λ (n : ℕ). refusal n bytes ≡ refusal_of dirty_report bytes) e refl
 
 structure-allow : (nr : ℕ) (bytes : List ℕ) → nr ≡ 0x3B82 → structure_in nr bytes ≡ ioas_allow_iovas
 unfolding structure_in rebuilt
@@ -137,6 +151,8 @@ count_is (IoasIovaRanges r) = refl
 count_is (IoasMap m) = count-map (is_fixed m.flags) (map_values m)
 count_is (IoasUnmap u) = refl
 count_is (HwptAlloc r) = refl
+count_is (DirtyEnable hwpt on) = refl
+count_is (DirtyReport r clears) = refl
 
 rebuilt-is : {A : Type 0} (c : Command A) → rebuilt (structure_of c).number (values_of c) (entries_of c) ≡ c
 unfolding rebuilt
@@ -148,6 +164,10 @@ rebuilt-is (IoasIovaRanges r) = refl
 rebuilt-is (IoasMap m) = refl
 rebuilt-is (IoasUnmap u) = refl
 rebuilt-is (HwptAlloc r) = refl
+rebuilt-is (DirtyEnable hwpt true) = refl
+rebuilt-is (DirtyEnable hwpt false) = refl
+rebuilt-is (DirtyReport r true) = refl
+rebuilt-is (DirtyReport r false) = refl
 
 same_command : {A : Type 0} (c d : Command A) → (structure_of c).number ≡ (structure_of d).number
     → values_of c ≡ values_of d → entries_of c ≡ entries_of d → c ≡ d

@@ -3,6 +3,7 @@ pub mod Refusing
 pub mod LittleEndian
 pub mod Rows
 pub mod EntriesBytes
+pub mod Words
 pub mod BothWays
 pub mod Commands
 pub mod MapBytes

@@ -1,5 +1,5 @@
 -- What a command of a file asks for, and what an ioctl answers to it.
-use Rattle.std.specs.Prelude.{ℕ, nat_lt, Option, Some, None, if◌then◌else◌}
+use Rattle.std.specs.Prelude.{ℕ, true, false, nat_lt, Option, Some, None, if◌then◌else◌}
 use Rattle.iofd_words.specs.Refusal as refusals
 use Rattle.iofd_words.specs.declared.event.Event.{Event}
 use Rattle.iofd_words.specs.declared.event.Event.TheVariants as event
@@ -15,7 +15,7 @@ use Rattle.ioctl_codec.specs.declared.command.Command.TheVariants as command
 use Rattle.ioctl_codec.specs.declared.command.RangesRequest.{RangesRequest}
 
 module _ {A : Type 0} where
-  -- the event that a command of this file asks for, or the ranges
+  -- the event that a command of this file asks for, or what is asked for by a question
   abbrev pub asked : FileNo → Command A → Asked A
   asked file (command.Destroy id) = asks.Event (event.Destroy file id)
   asked file command.IoasAlloc = asks.Event (event.IoasAlloc file)
@@ -25,6 +25,9 @@ module _ {A : Type 0} where
   asked file (command.IoasCopy request) = asks.Event (event.Copy file request)
   asked file (command.IoasUnmap request) = asks.Event (event.Unmap file request)
   asked file (command.HwptAlloc request) = asks.Event (event.HwptAlloc file request)
+  asked file (command.DirtyEnable hwpt on) = asks.Event (event.DirtyEnable file hwpt on)
+  asked file (command.DirtyReport request true) = asks.Event (event.DirtyClear file request)
+  asked file (command.DirtyReport request false) = asks.Dirty request
 
   -- the command whose event it is, if it is one's
   abbrev pub command_of : Event A → Option (Command A)
@@ -35,6 +38,8 @@ module _ {A : Type 0} where
   command_of (event.Unmap file request) = Some (command.IoasUnmap request)
   command_of (event.HwptAlloc file request) = Some (command.HwptAlloc request)
   command_of (event.Destroy file id) = Some (command.Destroy id)
+  command_of (event.DirtyEnable file hwpt on) = Some (command.DirtyEnable hwpt on)
+  command_of (event.DirtyClear file request) = Some (command.DirtyReport request true)
   command_of (event.Close file) = None
   command_of (event.UserMap user va) = None
   command_of (event.UserUnmap user va) = None

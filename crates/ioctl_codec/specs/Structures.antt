@@ -1,18 +1,22 @@
--- The structures served, as `include/uapi/linux/iommufd.h` of Linux 6.6 has them.
+-- The structures served, as `include/uapi/linux/iommufd.h` of Linux 6.6 has them, and two of this project's own behind
+-- them.
 use Rattle.std.specs.Prelude.{ℕ, ◌==◌, ◌^◌, Bool, true, false, ◌&&◌, ◌||◌, nat_lt, List, []}
 use Rattle.std.specs.Prelude.{◌∷◌, length, find, Option}
 use Rattle.std.specs.Int.RustNames.{bit_and}
 use Rattle.iofd_words.specs.Bounds.{Bounds}
 use Rattle.iofd_words.specs.Rights.{is_fixed}
 use Rattle.iofd_words.specs.declared.event.CopyRequest.{CopyRequest}
+use Rattle.iofd_words.specs.declared.event.DirtyRequest.{DirtyRequest}
 use Rattle.iofd_words.specs.declared.event.MapRequest.{MapRequest}
 use Rattle.iofd_words.specs.declared.flags.MapFlags.{MapFlags}
 use Rattle.iofd_words.specs.declared.numbers.Iova.{Iova}
+use Rattle.iofd_words.specs.declared.numbers.ObjId.{ObjId}
 use Rattle.ioctl_codec.specs.Layout.{Role, Flags, Argument, Answered, Chosen, Count, Output, Ignored, Reserved}
 use Rattle.ioctl_codec.specs.Layout.{Structure, u32, u64}
 use Rattle.ioctl_codec.specs.declared.command.Command.{Command}
 use Rattle.ioctl_codec.specs.declared.command.Command.TheVariants.{Destroy, IoasAlloc, IoasAllowIovas, IoasCopy}
 use Rattle.ioctl_codec.specs.declared.command.Command.TheVariants.{IoasIovaRanges, IoasMap, IoasUnmap, HwptAlloc}
+use Rattle.ioctl_codec.specs.declared.command.Command.TheVariants.{DirtyEnable, DirtyReport}
 
 -- id
 abbrev pub destroy : Structure
@@ -68,9 +72,21 @@ hwpt_alloc =
       fields = u32 Reserved ∷ u32 Argument ∷ u32 Argument ∷ u32 Output ∷ u32 Reserved ∷ [];
     }
 
+-- hwpt_id, flags (1 turns tracking on), reserved
+abbrev pub dirty_enable : Structure
+dirty_enable = record { number = 0x3BF0; fields = u32 Argument ∷ u32 (Flags 1) ∷ u32 Reserved ∷ [] }
+
+-- hwpt_id, flags (1 clears), reserved, iova, length
+abbrev pub dirty_report : Structure
+dirty_report =
+    record {
+      number = 0x3BF1;
+      fields = u32 Argument ∷ u32 (Flags 1) ∷ u32 Reserved ∷ u64 Argument ∷ u64 Argument ∷ [];
+    }
+
 abbrev pub structures : List Structure
 structures = destroy ∷ ioas_alloc ∷ ioas_allow_iovas ∷ ioas_copy true ∷ ioas_iova_ranges ∷ ioas_map true
-    ∷ ioas_unmap ∷ hwpt_alloc ∷ []
+    ∷ ioas_unmap ∷ hwpt_alloc ∷ dirty_enable ∷ dirty_report ∷ []
 
 -- the structure of a command's number, if it's served (both of MAP, and both of COPY, have the same length and
 -- refusals)
@@ -84,6 +100,19 @@ map_values m = m.flags.0 ∷ m.ioas.0 ∷ m.user_va ∷ m.length ∷ m.iova.0 �
 -- what a COPY carries
 abbrev pub copy_values : CopyRequest → List ℕ
 copy_values r = r.flags.0 ∷ r.dst_ioas.0 ∷ r.src_ioas.0 ∷ r.length ∷ r.dst_iova.0 ∷ r.src_iova.0 ∷ []
+
+-- flags that are one flag or none
+abbrev pub flag_value : Bool → ℕ
+flag_value true = 1
+flag_value false = 0
+
+-- what a DIRTY_ENABLE carries
+abbrev pub enable_values : ObjId → Bool → List ℕ
+enable_values hwpt on = hwpt.0 ∷ flag_value on ∷ []
+
+-- what a DIRTY_REPORT carries
+abbrev pub report_values : DirtyRequest → Bool → List ℕ
+report_values r clears = r.hwpt.0 ∷ flag_value clears ∷ r.iova.0 ∷ r.length ∷ []
 
 -- flags of a MAP or a COPY that are all known, and an address that they fix or that is 0
 abbrev pub are_kept : MapFlags → Iova → Bool
@@ -99,6 +128,8 @@ module _ {A : Type 0} where
   structure_of (IoasMap m) = ioas_map (is_fixed m.flags)
   structure_of (IoasUnmap u) = ioas_unmap
   structure_of (HwptAlloc r) = hwpt_alloc
+  structure_of (DirtyEnable hwpt on) = dirty_enable
+  structure_of (DirtyReport r clears) = dirty_report
 
   -- the entries that follow the structure
   abbrev pub entries_of : Command A → List Bounds
@@ -110,6 +141,8 @@ module _ {A : Type 0} where
   entries_of (IoasMap m) = []
   entries_of (IoasUnmap u) = []
   entries_of (HwptAlloc r) = []
+  entries_of (DirtyEnable hwpt on) = []
+  entries_of (DirtyReport r clears) = []
 
   -- what a command carries, in the order of the fields that carry it; a count is that of its entries
   abbrev pub values_of : Command A → List ℕ
@@ -121,6 +154,8 @@ module _ {A : Type 0} where
   values_of (IoasMap m) = map_values m
   values_of (IoasUnmap u) = u.ioas.0 ∷ u.iova.0 ∷ u.length ∷ []
   values_of (HwptAlloc r) = r.device.0 ∷ r.ioas.0 ∷ []
+  values_of (DirtyEnable hwpt on) = enable_values hwpt on
+  values_of (DirtyReport r clears) = report_values r clears
 
   -- the commands that have a spelling
   abbrev pub is_spellable : Command A → Bool
@@ -132,3 +167,5 @@ module _ {A : Type 0} where
   is_spellable (IoasMap m) = are_kept m.flags m.iova
   is_spellable (IoasUnmap u) = true
   is_spellable (HwptAlloc r) = true
+  is_spellable (DirtyEnable hwpt on) = true
+  is_spellable (DirtyReport r clears) = true

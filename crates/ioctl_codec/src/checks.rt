@@ -1,6 +1,6 @@
 //! The checks that every structure has in common.
 
-ghost use Rattle.std.specs.Prelude.{◌≡◌, ◌+◌, ◌*◌, ◌≤◌, length, drop, IfOk};
+ghost use Rattle.std.specs.Prelude.{◌≡◌, ◌+◌, ◌*◌, ◌≤◌, length, drop, IfOk, IsTrue};
 ghost use Rattle.iofd_words.specs.FirstTrue.{first_true};
 ghost use Rattle.ioctl_codec.specs.Refusals.{size_at, size_checks, field_checks, cause_of};
 
@@ -52,6 +52,7 @@ pub fn split_structure(bytes: &[u8], known: u32) -> Result<(&[u8], &[u8]), Refus
 #[tactic(auto, unfolding(crate::specs::Refusals::field_checks))]
 pub fn check_fields(supported: bool, count: u32, after: &[u8]) -> Result<(), Refusal>
     ensures refused { cause_of result ≡ first_true (field_checks supported count after.now) }
+    ensures supported { IfOk result (λ _. IsTrue supported) }
     ensures whole { IfOk result (λ _. length after.now ≡ 16 * count) }
 {
     if !supported {

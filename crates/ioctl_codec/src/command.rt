@@ -6,11 +6,12 @@ ghost use Rattle.std.specs.Int.RustNames.{bit_and};
 ghost use Rattle.iofd_words.specs.Rights.{is_fixed};
 
 use crate::structure::{
-    DESTROY, HWPT_ALLOC, IOAS_ALLOC, IOAS_ALLOW_IOVAS, IOAS_COPY, IOAS_IOVA_RANGES, IOAS_MAP,
-    IOAS_UNMAP,
+    DESTROY, DIRTY_ENABLE, DIRTY_REPORT, HWPT_ALLOC, IOAS_ALLOC, IOAS_ALLOW_IOVAS, IOAS_COPY,
+    IOAS_IOVA_RANGES, IOAS_MAP, IOAS_UNMAP,
 };
 use iofd_words::{
-    CopyRequest, HwptRequest, Iova, IovaRange, MapFlags, MapRequest, ObjId, RangeList, UnmapRequest,
+    CopyRequest, DirtyRequest, HwptRequest, Iova, IovaRange, MapFlags, MapRequest, ObjId,
+    RangeList, UnmapRequest,
 };
 use std::alloc::{Allocator, Global};
 
@@ -25,7 +26,8 @@ pub struct RangesRequest {
     pub places: u32,
 }
 
-/// What a call of `ioctl` asks for (uapi header `iommufd.h`, one structure each). One with a list owns it.
+/// What a call of `ioctl` asks for: one structure each, of the uapi header `iommufd.h` or this project's own. One
+/// with a list owns it.
 #[derive(Drop)]
 pub enum Command<A: Allocator = Global> {
     /// IOMMU_DESTROY: takes the object of this id away.
@@ -46,12 +48,18 @@ pub enum Command<A: Allocator = Global> {
     IoasUnmap(UnmapRequest),
     /// IOMMU_HWPT_ALLOC: makes a hardware page table.
     HwptAlloc(HwptRequest),
+    /// DIRTY_ENABLE (this project's own): turns on, or off, that the pages that devices write through the page table of
+    /// this id are tracked.
+    DirtyEnable(ObjId, bool),
+    /// DIRTY_REPORT (this project's own): asks which pages of a span were written, and takes their marks away where it
+    /// clears.
+    DirtyReport(DirtyRequest, bool),
 }
 
 impl<A: Allocator> Command<A> {
     ghost use Rattle.ioctl_codec.specs.Structures.{structure_of, is_spellable};
 
-    /// The command's number (uapi header: `_IO(';', nr)`, 0x3B80 and on).
+    /// The command's number (uapi header: `_IO(';', nr)`, 0x3B80 and on; this project's own from 0x3BF0 on).
     pub fn number(&self) -> u32
         ensures { result ≡ (structure_of self.now).number }
     {
@@ -64,6 +72,8 @@ impl<A: Allocator> Command<A> {
             Command::IoasMap(_) => IOAS_MAP,
             Command::IoasUnmap(_) => IOAS_UNMAP,
             Command::HwptAlloc(_) => HWPT_ALLOC,
+            Command::DirtyEnable(_, _) => DIRTY_ENABLE,
+            Command::DirtyReport(_, _) => DIRTY_REPORT,
         }
     }
 
@@ -82,7 +92,9 @@ impl<A: Allocator> Command<A> {
             | Command::IoasAlloc
             | Command::IoasIovaRanges(_)
             | Command::IoasUnmap(_)
-            | Command::HwptAlloc(_) => true,
+            | Command::HwptAlloc(_)
+            | Command::DirtyEnable(_, _)
+            | Command::DirtyReport(_, _) => true,
         }
     }
 }

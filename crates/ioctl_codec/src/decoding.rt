@@ -2,12 +2,13 @@
 #![tactic(auto, unfolding(crate::specs::Refusals::read_numbers))]
 
 ghost use Rattle.std.specs.Prelude.{◌≡◌, ◌≢◌, ◌*◌, ◌<◌, ◌≤◌, [], ◌∷◌, false};
-ghost use Rattle.std.specs.Prelude.{length, IfOk};
+ghost use Rattle.std.specs.Prelude.{length, IfOk, IsTrue};
 ghost use Rattle.iofd_words.specs.Rights.{is_fixed};
 ghost use Rattle.ioctl_codec.specs.Entries.{entries_at};
-ghost use Rattle.ioctl_codec.specs.Layout.{carried, length_of};
+ghost use Rattle.ioctl_codec.specs.Layout.{are_allowed, carried, length_of};
 ghost use Rattle.ioctl_codec.specs.Structures.{copy_values, ioas_allow_iovas, ioas_copy, ioas_map, map_values};
-ghost use Rattle.ioctl_codec.specs.Structures.{structure_of, values_of, entries_of};
+ghost use Rattle.ioctl_codec.specs.Structures.{dirty_enable, dirty_report, entries_of, flag_value, structure_of};
+ghost use Rattle.ioctl_codec.specs.Structures.{values_of};
 ghost use Rattle.ioctl_codec.specs.Spelling.{Spells};
 ghost use Rattle.ioctl_codec.specs.Refusals.{refusal_of, refusal, cause_of, refused_of, read_numbers, read_values};
 ghost use Rattle.ioctl_codec.specs.Refusals.{read_count, after_size, OnMemory, Gives, SpellsEntries};
@@ -20,13 +21,14 @@ use crate::entries::read_entries;
 use crate::fields::read_fields;
 use crate::number::low;
 use crate::structure::{
-    DESTROY, DESTROY_ROW, HWPT_ALLOC, HWPT_ALLOC_ROW, IOAS_ALLOC, IOAS_ALLOC_ROW, IOAS_ALLOW_IOVAS,
+    DESTROY, DESTROY_ROW, DIRTY_ENABLE, DIRTY_ENABLE_ROW, DIRTY_FLAG, DIRTY_REPORT,
+    DIRTY_REPORT_ROW, HWPT_ALLOC, HWPT_ALLOC_ROW, IOAS_ALLOC, IOAS_ALLOC_ROW, IOAS_ALLOW_IOVAS,
     IOAS_ALLOW_IOVAS_ROW, IOAS_COPY, IOAS_COPY_ROW, IOAS_IOVA_RANGES, IOAS_IOVA_RANGES_ROW,
     IOAS_MAP, IOAS_MAP_ROW, IOAS_UNMAP, IOAS_UNMAP_ROW, Structure,
 };
 use iofd_words::{
-    Cause, CopyRequest, HwptRequest, Iova, MapFlags, MapRequest, NoMemory, ObjId, RangeList,
-    Refusal, UnmapRequest,
+    Cause, CopyRequest, DirtyRequest, HwptRequest, Iova, MapFlags, MapRequest, NoMemory, ObjId,
+    RangeList, Refusal, UnmapRequest,
 };
 use std::alloc::Allocator;
 
@@ -39,6 +41,8 @@ fn numbers_of(structure: Structure, bytes: &[u8]) -> Result<[u64; 8], Refusal>
     ensures refused { cause_of result ≡ refusal_of (structure_in structure) bytes.now }
     ensures numbers { IfOk result (λ numbers. let s = structure_in structure in
         placed 0 s.fields numbers ≡ read_numbers s bytes.now) }
+    ensures allowed { IfOk result (λ numbers. let fields = (structure_in structure).fields in
+        IsTrue (are_allowed fields (placed 0 fields numbers))) }
 {
     let (fields, after) = split_structure(bytes, structure.length)?;
     let (numbers, allowed) = read_fields(structure.fields, fields);
@@ -77,6 +81,40 @@ fn map_of(numbers: &[u64; 8]) -> MapRequest
     }
 }
 
+// Whether the flag is set, where the flags are that one or none.
+fn is_set(flags: u32) -> bool
+    requires { flags ≤ 1 }
+    ensures { flag_value result ≡ flags }
+{
+    flags == DIRTY_FLAG
+}
+
+// DIRTY_ENABLE.
+fn dirty_enable_of<A: Allocator>(bytes: &[u8]) -> Result<Command<A>, Refusal>
+    ensures refused { cause_of result ≡ refusal_of dirty_enable bytes.now }
+    ensures structure { IfOk result (λ c. structure_of c ≡ dirty_enable) }
+    ensures values { IfOk result (λ c. values_of c ≡ read_values dirty_enable bytes.now) }
+    ensures entries { IfOk result (λ c. entries_of c ≡ []) }
+{
+    let numbers = numbers_of(DIRTY_ENABLE_ROW, bytes)?;
+    let (hwpt, flags) = (ObjId(low(numbers[0])), low(numbers[1]));
+    Ok(Command::DirtyEnable(hwpt, is_set(flags)))
+}
+
+// DIRTY_REPORT.
+fn dirty_report_of<A: Allocator>(bytes: &[u8]) -> Result<Command<A>, Refusal>
+    ensures refused { cause_of result ≡ refusal_of dirty_report bytes.now }
+    ensures structure { IfOk result (λ c. structure_of c ≡ dirty_report) }
+    ensures values { IfOk result (λ c. values_of c ≡ read_values dirty_report bytes.now) }
+    ensures entries { IfOk result (λ c. entries_of c ≡ []) }
+{
+    let numbers = numbers_of(DIRTY_REPORT_ROW, bytes)?;
+    let (hwpt, flags) = (ObjId(low(numbers[0])), low(numbers[1]));
+    let (iova, length) = (Iova(numbers[3]), numbers[4]);
+    let request = DirtyRequest { hwpt, iova, length };
+    Ok(Command::DirtyReport(request, is_set(flags)))
+}
+
 // Reading by the command's number, where no entries follow the structure.
 fn read_without_entries<A: Allocator>(nr: u32, bytes: &[u8]) -> Result<Command<A>, Refusal>
     requires { nr ≢ 0x3b82 }
@@ -103,8 +141,7 @@ fn read_without_entries<A: Allocator>(nr: u32, bytes: &[u8]) -> Result<Command<A
         IOAS_MAP => Ok(Command::IoasMap(map_of(&numbers_of(IOAS_MAP_ROW, bytes)?))),
         IOAS_UNMAP => {
             let numbers = numbers_of(IOAS_UNMAP_ROW, bytes)?;
-            let (ioas, iova) = (ObjId(low(numbers[0])), Iova(numbers[1]));
-            let length = numbers[2];
+            let (ioas, iova, length) = (ObjId(low(numbers[0])), Iova(numbers[1]), numbers[2]);
             Ok(Command::IoasUnmap(UnmapRequest { ioas, iova, length }))
         }
         HWPT_ALLOC => {
@@ -112,6 +149,8 @@ fn read_without_entries<A: Allocator>(nr: u32, bytes: &[u8]) -> Result<Command<A
             let (device, ioas) = (ObjId(low(numbers[1])), ObjId(low(numbers[2])));
             Ok(Command::HwptAlloc(HwptRequest { device, ioas }))
         }
+        DIRTY_ENABLE => dirty_enable_of(bytes),
+        DIRTY_REPORT => dirty_report_of(bytes),
         _ => Err(Refusal {
             cause: Cause::Number,
         }),
@@ -167,14 +206,14 @@ fn read<A: Allocator>(alloc: A, nr: u32, bytes: &[u8]) -> Result<Command<A>, Dec
     }
 }
 
-/// The command that a call with this number (0x3B80 and on) and these bytes is. It takes memory of this allocator for
-/// the entries of an IOAS_ALLOW_IOVAS, if there are any, and else none. Where the bytes spell no served command, the
-/// error is the first of these refusals that applies: the number isn't served (Number); fewer than 4 bytes, or a size
-/// below the structure's own length (Short); a size above 4096 (Tail); fewer bytes than the size (Short); a byte past
-/// the known structure, up to the size, that isn't 0 (Tail); an unknown flag, or a reserved field that isn't 0
-/// (Unsupported); other bytes after the size than 16 for each entry that an IOAS_ALLOW_IOVAS counts, or any for another
-/// command (Array). Only where no refusal applies, the error may be that memory was refused. The address at which a
-/// MAP or a COPY without FIXED_IOVA maps is ignored, and the command has 0 for it.
+/// The command that a call with this number (0x3B80 and on, or 0x3BF0 and on) and these bytes is. It takes memory of
+/// this allocator for the entries of an IOAS_ALLOW_IOVAS, if there are any, and else none. Where the bytes spell no
+/// served command, the error is the first of these refusals that applies: the number isn't served (Number); fewer
+/// than 4 bytes, or a size below the structure's own length (Short); a size above 4096 (Tail); fewer bytes than the
+/// size (Short); a byte past the known structure, up to the size, that isn't 0 (Tail); an unknown flag, or a reserved
+/// field that isn't 0 (Unsupported); other bytes after the size than 16 for each entry that an IOAS_ALLOW_IOVAS
+/// counts, or any for another command (Array). Only where no refusal applies, the error may be that memory was
+/// refused. The address at which a MAP or a COPY without FIXED_IOVA maps is ignored, and the command has 0 for it.
 pub fn decode<A: Allocator>(alloc: A, nr: u32, bytes: &[u8]) -> Result<Command<A>, DecodeError>
     // What is answered is spelled so.
     ensures found { IfOk result (λ c. Spells nr bytes.now c) }

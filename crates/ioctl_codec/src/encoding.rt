@@ -1,22 +1,24 @@
 //! From commands, and replies to them, to bytes.
 
-ghost use Rattle.std.specs.Prelude.{◌≡◌, ◌^◌, ◌<◌, ◌≤◌, ◌++◌, length, drop, None, IsTrue};
+ghost use Rattle.std.specs.Prelude.{◌≡◌, ◌^◌, ◌<◌, ◌≤◌, ◌++◌, length, take, drop, None, IsTrue};
 ghost use Rattle.std.specs.Prelude.{IfOk, OnOk, OnErr};
 ghost use Rattle.iofd_words.specs.Rights.{is_fixed};
 ghost use Rattle.ioctl_codec.specs.Entries.{AreAddresses, entries_bytes};
 ghost use Rattle.ioctl_codec.specs.Layout.{AreOfWidth, filled, structure_bytes};
 ghost use Rattle.ioctl_codec.specs.Structures.{copy_values, entries_of, ioas_copy, ioas_map, is_spellable, map_values};
+ghost use Rattle.ioctl_codec.specs.Structures.{dirty_enable, dirty_report, enable_values, flag_value, report_values};
 ghost use Rattle.ioctl_codec.specs.Structures.{structure_of, values_of};
-ghost use Rattle.ioctl_codec.specs.Spelling.{answer_of, canonical, ranges_written_back, written_back, Spells};
+ghost use Rattle.ioctl_codec.specs.Spelling.{answer_of, canonical, ranges_written_back, told_words, word_count};
+ghost use Rattle.ioctl_codec.specs.Spelling.{written_back, Spells};
 
 use crate::command::{Command, RangesRequest, kept_iova};
 use crate::entries::{put_ranges, put_spans};
-use crate::fields::put_structure;
+use crate::fields::{put_structure, put_words};
 use crate::structure::{
-    DESTROY_ROW, HWPT_ALLOC_ROW, IOAS_ALLOC_ROW, IOAS_ALLOW_IOVAS_ROW, IOAS_COPY_ROW,
-    IOAS_IOVA_RANGES_ROW, IOAS_MAP_ROW, IOAS_UNMAP_ROW,
+    DESTROY_ROW, DIRTY_ENABLE_ROW, DIRTY_FLAG, DIRTY_REPORT_ROW, HWPT_ALLOC_ROW, IOAS_ALLOC_ROW,
+    IOAS_ALLOW_IOVAS_ROW, IOAS_COPY_ROW, IOAS_IOVA_RANGES_ROW, IOAS_MAP_ROW, IOAS_UNMAP_ROW,
 };
-use iofd_words::{CopyRequest, MapRequest, NoMemory, Reply, Span};
+use iofd_words::{CopyRequest, DirtyRequest, MapRequest, NoMemory, ObjId, Reply, Span};
 use std::alloc::Allocator;
 
 // What `out_iova_alignment` says: addresses are mapped by whole pages.
@@ -34,7 +36,29 @@ fn answer_of<A: Allocator>(command: &Command<A>, reply: &Reply) -> Option<Option
         (Command::IoasMap(_), Reply::Iova(iova)) => Some(Some(iova.0)),
         (Command::IoasUnmap(_), Reply::Bytes(count)) => Some(Some(count)),
         (Command::HwptAlloc(_), Reply::Id(id)) => Some(Some(u64::from(id.0))),
+        (Command::DirtyEnable(_, _), Reply::Done) => Some(None),
+        (Command::DirtyReport(_, _), Reply::Dirty(_)) => Some(None),
         _ => None,
+    }
+}
+
+// Of the words of a report those that have a page of a span of this length in them: 64 pages stand in each.
+fn words_for(span_length: u64, words: &[u64; 4]) -> &[u64]
+    ensures words { result.now ≡ take (word_count span_length) words.now }
+    ensures few { length result.now ≤ 4 }
+{
+    let count = (span_length / 4096 + 63) / 64;
+    &words[..count.min(4) as usize]
+}
+
+// The words that are written back: those of a report.
+fn told_words<'a, A: Allocator>(command: &Command<A>, reply: &'a Reply) -> &'a [u64]
+    ensures words { result.now ≡ told_words command.now reply.now }
+    ensures few { length result.now ≤ 4 }
+{
+    match (command, reply) {
+        (Command::DirtyReport(request, _), Reply::Dirty(words)) => words_for(request.length, words),
+        _ => &[],
     }
 }
 
@@ -76,6 +100,44 @@ fn put_map(out: &mut [u8; 64], map: MapRequest, answer: Option<u64>) -> usize
     put_structure(out, IOAS_MAP_ROW, &numbers)
 }
 
+// The flags of a DIRTY_ENABLE or a DIRTY_REPORT.
+fn flags_of(is_set: bool) -> u32
+    ensures value { result ≡ flag_value is_set }
+    ensures fits { flag_value is_set < 2 ^ 32 }
+{
+    if is_set { DIRTY_FLAG } else { 0 }
+}
+
+// Writes a DIRTY_ENABLE, which no answer changes, to the front.
+#[tactic(auto, unfolding(crate::specs::Layout::structure_bytes))]
+fn put_dirty_enable(out: &mut [u8; 64], hwpt: ObjId, on: bool) -> usize
+    ensures count { result ≡ 16 }
+    ensures bytes { out.new ≡ structure_bytes dirty_enable (enable_values hwpt on) None ++ drop result out.old }
+    ensures fits { let fields = dirty_enable.fields in
+        AreOfWidth fields (filled fields (enable_values hwpt on) None) }
+{
+    let numbers = [u64::from(hwpt.0), u64::from(flags_of(on)), 0];
+    put_structure(out, DIRTY_ENABLE_ROW, &numbers)
+}
+
+// The same of a DIRTY_REPORT, without words.
+#[tactic(auto, unfolding(crate::specs::Layout::structure_bytes))]
+fn put_dirty_report(out: &mut [u8; 64], request: DirtyRequest, clears: bool) -> usize
+    ensures count { result ≡ 32 }
+    ensures bytes { out.new ≡ structure_bytes dirty_report (report_values request clears) None ++ drop result out.old }
+    ensures fits { let fields = dirty_report.fields in
+        AreOfWidth fields (filled fields (report_values request clears) None) }
+{
+    let numbers = [
+        u64::from(request.hwpt.0),
+        u64::from(flags_of(clears)),
+        0,
+        request.iova.0,
+        request.length,
+    ];
+    put_structure(out, DIRTY_REPORT_ROW, &numbers)
+}
+
 // Writes the structure of the command, with this answer in its field if there is one, to the front, and answers its
 // length. The rest stays.
 #[tactic(auto, unfolding(crate::specs::Layout::structure_bytes))]
@@ -113,6 +175,8 @@ fn put_command<A: Allocator>(out: &mut [u8; 64], command: &Command<A>, answer: O
             let (device, ioas) = (u64::from(request.device.0), u64::from(request.ioas.0));
             put_structure(out, HWPT_ALLOC_ROW, &[0, device, ioas, output, 0])
         }
+        Command::DirtyEnable(hwpt, on) => put_dirty_enable(out, *hwpt, *on),
+        Command::DirtyReport(request, clears) => put_dirty_report(out, *request, *clears),
     }
 }
 
@@ -207,7 +271,7 @@ pub fn encode_reply<A: Allocator, B: Allocator>(
 }
 
 /// Writes what is written back for this reply to the front of the buffer, and answers how many bytes
-/// that is, at most 40. The rest of the buffer stays. It takes no memory.
+/// that is, at most 64. The rest of the buffer stays. It takes no memory.
 ///
 /// For a good reply it's the command's structure with the answer in its field: the new id of an
 /// IOAS_ALLOC in `out_ioas_id`, that of a HWPT_ALLOC in `out_hwpt_id`, the address of a MAP in `iova` and that of a
@@ -215,6 +279,9 @@ pub fn encode_reply<A: Allocator, B: Allocator>(
 /// size came in. The entries of an IOAS_ALLOW_IOVAS aren't written back. For any other reply, refused and pending ones
 /// among them, nothing is written; nor is it for an IOAS_IOVA_RANGES, for which `encode_ranges` does, nor for an
 /// IOAS_ALLOW_IOVAS with 2^32 ranges or more.
+///
+/// Behind the structure of a DIRTY_REPORT come the first words, one for each 64 pages of its length, and one for those
+/// that are left. The words of a report that doesn't clear, which is a question, are passed as a reply too.
 #[tactic(auto, unfolding(crate::specs::Layout::structure_bytes))]
 pub fn encode_reply_to<A: Allocator>(
     command: &Command<A>,
@@ -222,11 +289,12 @@ pub fn encode_reply_to<A: Allocator>(
     buffer: &mut [u8; 64],
 ) -> usize
     ensures count { result ≡ length (written_back command.now reply.now) }
-    ensures at_most { result ≤ 40 }
+    ensures at_most { result ≤ 64 }
     ensures bytes { buffer.new ≡ written_back command.now reply.now ++ drop result buffer.old }
 {
-    match answer_of(command, reply) {
-        Some(answer) => put_command(buffer, command, answer),
-        None => 0,
-    }
+    let Some(answer) = answer_of(command, reply) else {
+        return 0;
+    };
+    let place = put_command(buffer, command, answer);
+    put_words(buffer, place, told_words(command, reply))
 }

@@ -4,7 +4,7 @@ ghost use Rattle.std.specs.Prelude.{◌≡◌};
 ghost use Rattle.ioctl_codec.specs.Events.{asked, command_of, errno_of, ranges_errno};
 
 use crate::command::{Command, RangesRequest};
-use iofd_words::{Errno, Event, FileNo, Reply};
+use iofd_words::{DirtyRequest, Errno, Event, FileNo, Reply};
 use std::alloc::{Allocator, Global};
 
 /// What a command of a file asks for.
@@ -14,6 +14,9 @@ pub enum Asked<A: Allocator = Global> {
     Event(Event<A>),
     /// The usable ranges of an address space: a question, which makes none.
     Ranges(RangesRequest),
+    /// Which pages of a span were written, by a DIRTY_REPORT that doesn't clear: a question, which makes none. For its
+    /// words `encode_reply_to` writes what is written back, as it does for those of a report that clears.
+    Dirty(DirtyRequest),
 }
 
 impl<A: Allocator> Command<A> {
@@ -32,6 +35,9 @@ impl<A: Allocator> Command<A> {
             Command::IoasCopy(request) => Asked::Event(Event::Copy(file, request)),
             Command::IoasUnmap(request) => Asked::Event(Event::Unmap(file, request)),
             Command::HwptAlloc(request) => Asked::Event(Event::HwptAlloc(file, request)),
+            Command::DirtyEnable(hwpt, on) => Asked::Event(Event::DirtyEnable(file, hwpt, on)),
+            Command::DirtyReport(request, true) => Asked::Event(Event::DirtyClear(file, request)),
+            Command::DirtyReport(request, false) => Asked::Dirty(request),
         }
     }
 
@@ -47,6 +53,8 @@ impl<A: Allocator> Command<A> {
             Event::Unmap(_, request) => Some(Command::IoasUnmap(request)),
             Event::HwptAlloc(_, request) => Some(Command::HwptAlloc(request)),
             Event::Destroy(_, id) => Some(Command::Destroy(id)),
+            Event::DirtyEnable(_, hwpt, on) => Some(Command::DirtyEnable(hwpt, on)),
+            Event::DirtyClear(_, request) => Some(Command::DirtyReport(request, true)),
             _ => None,
         }
     }

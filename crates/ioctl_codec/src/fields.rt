@@ -1,12 +1,14 @@
-//! The numbers in a structure's fields: one loop over the fields reads them, and one writes them.
+//! The numbers in a structure's fields: one loop over the fields reads them, and one writes them. One more writes words
+//! behind a structure.
 
-ghost use Rattle.std.specs.Prelude.{◌≡◌, ◌+◌, ◌≤◌, ◌++◌, length, take, drop};
+ghost use Rattle.std.specs.Prelude.{◌≡◌, ◌+◌, ◌*◌, ◌≤◌, ◌++◌, length, take, drop};
 ghost use Rattle.std.specs.Int.{w32, byte_len, from_le_bytes, to_le_bytes};
 ghost use Rattle.ioctl_codec.specs.Layout.{width, bytes_of, length_of, are_allowed, numbers_at, spelled};
+ghost use Rattle.ioctl_codec.specs.Spelling.{words_bytes};
 ghost use Rattle.ioctl_codec.specs.Table.{field_in, fields_in, structure_in, placed};
 
 use crate::number::{u32_at, u64_at};
-use crate::structure::{Field, Structure};
+use crate::structure::{Field, Role, Structure};
 
 // The number in the field at the front, and the bytes after it.
 #[inline(always)]
@@ -82,4 +84,17 @@ pub fn put_structure(out: &mut [u8; 64], structure: Structure, numbers: &[u64]) 
         at = put_number(out, at, *field, numbers[index]);
     }
     at
+}
+
+// Writes words one behind the other from a place on, and answers the place behind them. The rest of the buffer stays.
+pub fn put_words(out: &mut [u8; 64], at: usize, words: &[u64]) -> usize
+    requires { at + 8 * length words.now ≤ 64 }
+    ensures next { result ≡ at + 8 * length words.now }
+    ensures written { out.new ≡ take at out.old ++ (words_bytes words.now ++ drop result out.old) }
+{
+    let mut place = at;
+    for word in words {
+        place = put_number(out, place, Field::U64(Role::Argument), *word);
+    }
+    place
 }

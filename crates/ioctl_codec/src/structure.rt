@@ -1,4 +1,5 @@
-//! The structures served (uapi header `iommufd.h`): what each of their fields is for, in their order.
+//! The structures served (uapi header `iommufd.h`, and this project's own two): what each of their fields is for, in
+//! their order.
 
 ghost use Rattle.std.specs.Prelude.{◌≡◌};
 ghost use Rattle.ioctl_codec.specs.Layout.{is_allowed};
@@ -23,6 +24,13 @@ pub const IOAS_MAP: u32 = 0x3b85;
 pub const IOAS_UNMAP: u32 = 0x3b86;
 
 pub const HWPT_ALLOC: u32 = 0x3b89;
+
+pub const DIRTY_ENABLE: u32 = 0x3bf0;
+
+pub const DIRTY_REPORT: u32 = 0x3bf1;
+
+// The only flag of a DIRTY_ENABLE, by which it turns tracking on, and of a DIRTY_REPORT, by which it clears.
+pub const DIRTY_FLAG: u32 = 1;
 
 // What a field is for.
 #[derive(Clone, Copy)]
@@ -136,6 +144,26 @@ pub const HWPT_ALLOC_ROW: Structure = Structure {
         U32(Argument),
         U32(Output),
         U32(Reserved),
+    ],
+};
+
+// hwpt_id, flags, reserved
+pub const DIRTY_ENABLE_ROW: Structure = Structure {
+    number: DIRTY_ENABLE,
+    length: 16,
+    fields: &[U32(Argument), U32(Flags(DIRTY_FLAG)), U32(Reserved)],
+};
+
+// hwpt_id, flags, reserved, iova, length
+pub const DIRTY_REPORT_ROW: Structure = Structure {
+    number: DIRTY_REPORT,
+    length: 32,
+    fields: &[
+        U32(Argument),
+        U32(Flags(DIRTY_FLAG)),
+        U32(Reserved),
+        U64(Argument),
+        U64(Argument),
     ],
 };
 

@@ -72,6 +72,7 @@ with_phases first second =
           table_row 1 5 3 0 2 ∷ table_row 1 5 2 0 3 ∷ table_row 1 5 1 0 4
           ∷ table_row 1 6 4 0 5 ∷ table_row 1 6 3 0 6 ∷ table_row 1 6 2 0 7 ∷ table_row 1 6 1 0 8
           ∷ [];
+      tracked = [];
       writes = [];
     }
 

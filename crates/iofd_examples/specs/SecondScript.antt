@@ -72,6 +72,7 @@ mapped =
       attachments = [];
       access_pins = [];
       table_frames = [];
+      tracked = [];
       writes =
           record { frame = 2; offset = 0; bytes = 0xcc ∷ [] }
           ∷ record { frame = 1; offset = 0; bytes = 0x11 ∷ [] }

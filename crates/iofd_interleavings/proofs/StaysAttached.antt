@@ -271,4 +271,6 @@ module _ (w : World) (device : DeviceNo) (file : FileNo) (ioas : ObjId) (tidy : 
   stays_attached at (event.AccessPin own id request) reply.Done none answers other = is
   stays_attached at (event.AccessUnpin own id request) reply.Done none answers other = is
   stays_attached at (event.AccessWrite own id iova bytes) reply.Done none answers other = is
+  stays_attached at (event.DirtyEnable own hwpt on) reply.Done none answers other = is
+  stays_attached at (event.DirtyClear own request) (reply.Dirty words) none answers other = is
   stays_attached at e answer none answers other = is

@@ -245,4 +245,6 @@ module _ (w : World) (device : DeviceNo) (area : Area) (tidy : IsTidy w) (among 
   stays_covered at (event.AccessPin own id request) reply.Done none answers other = same
   stays_covered at (event.AccessUnpin own id request) reply.Done none answers other = same
   stays_covered at (event.AccessWrite own id iova bytes) reply.Done none answers other = same
+  stays_covered at (event.DirtyEnable own hwpt on) reply.Done none answers other = same
+  stays_covered at (event.DirtyClear own request) (reply.Dirty words) none answers other = same
   stays_covered at e answer none answers other = same

@@ -58,6 +58,7 @@ shared phase =
       attachments = attachment_row 1 1 4 ∷ attachment_row 2 1 4 ∷ [];
       access_pins = [];
       table_frames = table_row 1 4 3 0 1 ∷ table_row 1 4 2 0 2 ∷ table_row 1 4 1 0 3 ∷ [];
+      tracked = [];
       writes = [];
     }
 

@@ -81,6 +81,7 @@ use Rattle.iofd_runs.proofs.Accessed.{EachHeld, accessed_objects, accessed_phase
 use Rattle.iofd_runs.proofs.HoldersStay.{more_holders}
 use Rattle.iofd_laws.proofs.PinsDue.{pin_over}
 use Rattle.iofd_words.specs.Checks.{access_unpin_checks, access_write_checks}
+use Rattle.iofd_words.specs.Checks.{dirty_checks, dirty_enable_checks}
 use Rattle.iofd_laws.proofs.PinsGained.{StayPinned, account_row, all_held, count_all, flipped, gets_pin}
 use Rattle.iofd_laws.proofs.PinsGained.{is_account, is_over, keeps_pin, never, of_owner, passed}
 
@@ -468,7 +469,7 @@ module _ {A : Type 0} (at : ℕ) (w : World) (p : OwnedPins at w) (fits : RowsFi
   unfolding changed Answers copy_checks ioas_alloc_checks allow_iovas_checks unmap_checks destroy_checks close_checks
       user_map_checks user_unmap_checks user_write_checks bind_checks unbind_checks detach_checks flush_checks
       device_write_checks access_create_checks access_attach_checks access_detach_checks access_unpin_checks
-      access_write_checks
+      access_write_checks dirty_enable_checks dirty_checks
   over_limit (event.Map file request) (reply.Iova iova) refused answers =
       map_over at w file request iova p.pins refused
   over_limit (event.Copy file request) (reply.Iova iova) refused answers =

@@ -14,6 +14,7 @@ use Rattle.iofd_words.specs.Checks.{tables_to_map, unbind_checks, unmap_checks, 
 use Rattle.iofd_words.specs.Checks.{user_unmap_checks, user_write_checks}
 use Rattle.iofd_words.specs.Checks.{access_create_checks, access_attach_checks, access_detach_checks}
 use Rattle.iofd_words.specs.Checks.{access_pin_checks, access_unpin_checks, access_write_checks, pin_checks_in}
+use Rattle.iofd_words.specs.Checks.{dirty_checks, dirty_enable_checks}
 use Rattle.iofd_words.specs.Objects.{access_ioas_of}
 use Rattle.iofd_words.specs.Copies.{placed_as}
 use Rattle.iofd_words.specs.Files.{device_of, is_open, user_of}
@@ -341,6 +342,7 @@ module _ {A : Type 0} (at : ℕ) (w : World) (has : HasTables w) (taken given : 
   unfolding Answers ioas_alloc_checks allow_iovas_checks unmap_checks destroy_checks close_checks user_unmap_checks
       user_write_checks bind_checks unbind_checks detach_checks flush_checks device_write_checks access_create_checks
       access_attach_checks access_detach_checks access_pin_checks access_unpin_checks access_write_checks
+      dirty_enable_checks dirty_checks
   due (event.Map file request) (reply.Iova iova) refused fixed answers moves =
       by_flag (is_fixed request.flags) refl fixed answers
     where

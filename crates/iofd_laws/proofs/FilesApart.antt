@@ -6,7 +6,7 @@ use Rattle.std.specs.List.{filter, list_all, list_any}
 use Rattle.std.proofs.lemmas.Bool.{eqb-true, true≢false}
 use Rattle.std.proofs.lemmas.Bool.Decides.{nat_tests}
 use Rattle.iofd_words.specs.After.{changed, copy_changes, map_changes, hwpt_changes}
-use Rattle.iofd_words.specs.After.{settle, without_areas, attached, detached, joined, goes_with}
+use Rattle.iofd_words.specs.After.{settle, without_areas, attached, detached, joined, goes_with, tracked_without}
 use Rattle.iofd_words.specs.After.{mapped_area, with_hwpt}
 use Rattle.iofd_words.specs.Allowed.{AllowedRanges, with_allowed, without_allowed}
 use Rattle.iofd_words.specs.Areas.{all_paid, owed_by, paid, is_touched, leaving, with_area, with_phase}
@@ -15,7 +15,11 @@ use Rattle.iofd_words.specs.Attachments.{attachment_of, with_attachment, without
 use Rattle.iofd_words.specs.Checks.{refusal}
 use Rattle.iofd_words.specs.Copies.{placed_as}
 use Rattle.iofd_words.specs.DeviceSet.{without_device}
+use Rattle.iofd_words.specs.Dirty.{TrackedTable, is_tracked_as, marked_by, reported_span, with_mark}
+use Rattle.iofd_words.specs.Dirty.{with_tracking, without_marks, without_tracked}
+use Rattle.iofd_words.specs.DirtyWords.{is_page_of}
 use Rattle.iofd_words.specs.Files.{user_of}
+use Rattle.iofd_words.specs.Pages.{page_of}
 use Rattle.iofd_laws.specs.Laws.{FileRows, IsOfAnother, file_of_device, rows_of}
 use Rattle.iofd_words.specs.Objects.{automatic_hwpt, binding_of, comes_before, objects_of, settings_under}
 use Rattle.iofd_words.specs.Objects.{with_object, with_access, is_access}
@@ -45,7 +49,7 @@ use Rattle.iofd_rows.proofs.Bound.{is_bound_to, is_of_file}
 use Rattle.iofd_rows.proofs.Found.{found_passes}
 use Rattle.iofd_rows.proofs.Accesses.{reattached, reattached_is, same_name}
 use Rattle.iofd_runs.proofs.CopySource.{source_area}
-use Rattle.iofd_runs.proofs.NotRefused.{detach_passed, flush_passed, passes}
+use Rattle.iofd_runs.proofs.NotRefused.{detach_passed, flush_passed, passes, write_passed}
 use Rattle.iofd_runs.proofs.Branches.{by_attachment, by_found, by_target}
 
 -- ---- filters
@@ -143,23 +147,67 @@ closed_more (f ∷ files) own file differ = ap (λ b. eqb f.0 file.0 || b) (clos
 
 -- ---- each command
 
-same_rows : {objects objects' : List Object} {areas areas' : List Area} {allowed allowed' : List AllowedRanges}
-    {attachments attachments' : List Attachment} {closed closed' : Bool} → objects ≡ objects' → areas ≡ areas'
-    → allowed ≡ allowed' → attachments ≡ attachments' → closed ≡ closed'
+all_rows : {objects objects' : List Object} {areas areas' : List Area} {allowed allowed' : List AllowedRanges}
+    {attachments attachments' : List Attachment} {tracked tracked' : List TrackedTable} {closed closed' : Bool}
+    → objects ≡ objects' → areas ≡ areas' → allowed ≡ allowed' → attachments ≡ attachments' → tracked ≡ tracked'
+    → closed ≡ closed'
     → (let rows : FileRows = record {
       objects = objects;
       areas = areas;
       allowed = allowed;
       attachments = attachments;
+      tracked = tracked;
       closed = closed;
     } in rows) ≡ record {
       objects = objects';
       areas = areas';
       allowed = allowed';
       attachments = attachments';
+      tracked = tracked';
       closed = closed';
     }
-same_rows a b c d e = rw (a, b, c, d, e) refl
+all_rows a b c d t e = rw (a, b, c, d, t, e) refl
+
+-- where no page table is tracked anew or no more, and none is marked
+same_rows : {objects objects' : List Object} {areas areas' : List Area} {allowed allowed' : List AllowedRanges}
+    {attachments attachments' : List Attachment} {tracked : List TrackedTable} {closed closed' : Bool}
+    → objects ≡ objects' → areas ≡ areas' → allowed ≡ allowed' → attachments ≡ attachments' → closed ≡ closed'
+    → (let rows : FileRows = record {
+      objects = objects;
+      areas = areas;
+      allowed = allowed;
+      attachments = attachments;
+      tracked = tracked;
+      closed = closed;
+    } in rows) ≡ record {
+      objects = objects';
+      areas = areas';
+      allowed = allowed';
+      attachments = attachments';
+      tracked = tracked;
+      closed = closed';
+    }
+same_rows a b c d e = all_rows a b c d refl e
+
+-- and where that alone changes
+same_but_tracked : {objects : List Object} {areas : List Area} {allowed : List AllowedRanges}
+    {attachments : List Attachment} {tracked tracked' : List TrackedTable} {closed : Bool} → tracked ≡ tracked'
+    → (let rows : FileRows = record {
+      objects = objects;
+      areas = areas;
+      allowed = allowed;
+      attachments = attachments;
+      tracked = tracked;
+      closed = closed;
+    } in rows) ≡ record {
+      objects = objects;
+      areas = areas;
+      allowed = allowed;
+      attachments = attachments;
+      tracked = tracked';
+      closed = closed;
+    }
+same_but_tracked t = all_rows refl refl refl refl t refl
 
 -- the allowed ranges are those of an address space of this file
 abbrev are_of_file : FileNo → AllowedRanges → Bool
@@ -281,6 +329,45 @@ accesses_stay own file id attached objects differ =
     all [] = refl
     all (o ∷ xs) = all xs
 
+-- another file's page tables are tracked, marked or cleared
+module _ (own file : FileNo) (hwpt : ObjId) (differ : own.0 ≢ file.0) where
+  abbrev of_file : TrackedTable → Bool
+  of_file table = eqb table.file.0 file.0
+
+  abbrev named : TrackedTable → Bool
+  named = is_tracked_as own hwpt
+
+  not_named : (table : TrackedTable) → of_file table ≡ true → named table ≡ false
+  not_named table same = rw (files_differ own file table.file.0 differ same) refl
+
+  others_tracked : (tables : List TrackedTable) → filter of_file (without_tracked own hwpt tables) ≡ filter of_file tables
+  others_tracked tables =
+      filter_filter of_file (λ table. not (named table)) tables (λ table same. ap not (not_named table same))
+
+  tracking_apart : (on : Bool) (tables : List TrackedTable)
+      → filter of_file (with_tracking own hwpt on tables) ≡ filter of_file tables
+  tracking_apart true tables = rw (other_file own file differ) (others_tracked tables)
+  tracking_apart false tables = others_tracked tables
+
+  all_tables : (tables : List TrackedTable) → list_all (λ (table : TrackedTable). true) tables ≡ true
+  all_tables [] = refl
+  all_tables (table ∷ tables) = all_tables tables
+
+  -- other pages in the rows that are named
+  pages_apart : (pages : TrackedTable → List ℕ) (tables : List TrackedTable)
+      → filter of_file (map (λ (table : TrackedTable). cond (named table) (record table { pages = pages table }) table) tables)
+      ≡ filter of_file tables
+  pages_apart pages tables =
+      filter_map_same of_file (λ table. true)
+      (λ (table : TrackedTable). cond (named table) (record table { pages = pages table }) table) tables
+      (all_tables tables) (λ table. by_name table (named table))
+      (λ table same kept. ap (λ (b : Bool). cond b (record table { pages = pages table }) table) (not_named table same))
+    where
+      by_name : (table : TrackedTable) (b : Bool)
+          → of_file (cond b (record table { pages = pages table }) table) ≡ of_file table
+      by_name table true = refl
+      by_name table false = refl
+
 phase_stays : (a : Area) (touched : Bool) (new : Phase) → touched ≡ false → with_phase (cond touched new a.phase) a ≡ a
 phase_stays a touched new is = rw is refl
 
@@ -337,16 +424,17 @@ keeps_others at w (event.HwptAlloc f request) (reply.Id id) file b none another 
     (settings_under w.settings w.objects f request.device) refl (λ settings is. same_rows
     (objects-with_object _ w.objects file (other_file f file (another f refl))) refl refl refl refl)
 keeps_others at w (event.Destroy f id) reply.Done file b none another =
-    same_rows (filter_filter _ _ w.objects (λ o same. stays f file o.file.0 _ (another f refl) same))
+    all_rows (filter_filter _ _ w.objects (λ o same. stays f file o.file.0 _ (another f refl) same))
     (filter_filter _ _ w.areas (λ a same. stays f file a.file.0 _ (another f refl) same))
     (filter_filter _ _ w.allowed (λ r same. stays f file r.file.0 _ (another f refl) same))
-    refl refl
+    refl (others_tracked f file id (another f refl) w.tracked) refl
 keeps_others at w (event.Close f) reply.Done file b none another =
-    same_rows
+    all_rows
     (filter_filter _ _ w.objects (λ o same. stays_too f file o.file.0 (another f refl) same))
     (filter_filter _ _ w.areas (λ a same. stays_too f file a.file.0 (another f refl) same))
     (filter_filter _ _ w.allowed (λ r same. stays_too f file r.file.0 (another f refl) same))
     (filter_filter _ _ w.attachments (λ a same. stays_too f file a.file.0 (another f refl) same))
+    (filter_filter _ _ w.tracked (λ t same. stays_too f file t.file.0 (another f refl) same))
     (closed_more w.closed f file (other_file f file (another f refl)))
 keeps_others at w (event.UserMap user va) (reply.Frame frame) file b none another = refl
 keeps_others at w (event.UserUnmap user va) reply.Done file b none another = refl
@@ -376,18 +464,38 @@ keeps_others at w (event.Detach device) reply.Done file b none another =
     by_attachment w device (λ new. rows_of file new ≡ rows_of file w) refl (λ a found.
     let differ = elsewhere w device object file another bound in
     let own = attached_file w device object a b bound found in
-    same_rows
-    (filter_filter _ _ w.objects (λ o same. goes_elsewhere (without_attachment device w.attachments) a file o
-    (λ here. differ (own ∙ here)) same))
+    let apart = λ (here : a.file.0 ≡ file.0). differ (own ∙ here) in
+    all_rows
+    (filter_filter _ _ w.objects (λ o same. goes_elsewhere (without_attachment device w.attachments) a file o apart
+    same))
     (areas_paid w device object file b bound differ)
     refl
     (attachments_same w device object file b bound differ)
+    (gone_apart a apart (list_any (goes_with (without_attachment device w.attachments) a) w.objects))
     refl)
+  where
+    gone_apart : (a : Attachment) → a.file.0 ≢ file.0 → (goes : Bool)
+        → filter (λ (t : TrackedTable). eqb t.file.0 file.0) (cond goes (without_tracked a.file a.hwpt w.tracked) w.tracked)
+        ≡ filter (λ (t : TrackedTable). eqb t.file.0 file.0) w.tracked
+    gone_apart a apart true = others_tracked a.file file a.hwpt apart w.tracked
+    gone_apart a apart false = refl
 keeps_others at w (event.Flush device) reply.Done file b none another =
     let bound = is_bound w device (flush_passed (view w) device none) in
     same_rows refl (areas_paid w device bound.0 file b bound.1 (elsewhere w device bound.0 file another bound.1)) refl
     refl refl
-keeps_others at w (event.DeviceWrite device iova bytes) (reply.Passed frame) file b none another = refl
+keeps_others at w (event.DeviceWrite device iova bytes) (reply.Passed frame) file b none another =
+    let (object, bound) = is_bound w device (write_passed (view w) device iova bytes none).bound in
+    same_but_tracked (by_attached object bound (attachment_of w.attachments device) refl)
+  where
+    by_attached : (object : Object) → binding_of w.objects device ≡ Some object → (o : Option Attachment)
+        → attachment_of w.attachments device ≡ o
+        → filter (λ (t : TrackedTable). eqb t.file.0 file.0) (marked_by o (page_of iova.0) w.tracked)
+        ≡ filter (λ (t : TrackedTable). eqb t.file.0 file.0) w.tracked
+    by_attached object bound None is = refl
+    by_attached object bound (Some a) is =
+        let own = attached_file w device object a b bound is in
+        pages_apart a.file file a.hwpt (λ here. elsewhere w device object file another bound (own ∙ here))
+        (λ table. page_of iova.0 ∷ table.pages) w.tracked
 keeps_others at w (event.AccessCreate f) (reply.Id id) file b none another =
     same_rows (objects-with_object _ w.objects file (other_file f file (another f refl))) refl refl refl refl
 keeps_others at w (event.AccessAttach f id ioas) reply.Done file b none another =
@@ -397,6 +505,11 @@ keeps_others at w (event.AccessDetach f id) reply.Done file b none another =
 keeps_others at w (event.AccessPin f id request) reply.Done file b none another = refl
 keeps_others at w (event.AccessUnpin f id request) reply.Done file b none another = refl
 keeps_others at w (event.AccessWrite f id iova bytes) reply.Done file b none another = refl
+keeps_others at w (event.DirtyEnable f hwpt on) reply.Done file b none another =
+    same_but_tracked (tracking_apart f file hwpt (another f refl) on w.tracked)
+keeps_others at w (event.DirtyClear f request) (reply.Dirty words) file b none another =
+    same_but_tracked (pages_apart f file request.hwpt (another f refl)
+    (λ table. filter (λ page. not (is_page_of (reported_span request) page)) table.pages) w.tracked)
 keeps_others at w e answer file b none another = refl
 
 pub after_keeps_others : {A : Type 0} (at : ℕ) (w : World) (r : Record A) (file : FileNo) → AreBound w

@@ -476,6 +476,8 @@ keeps_limits at w (event.AccessUnpin file id request) reply.Done none p accessed
     (λ user limit has before. let held = unpinned_held w (pin_of file id request) user in omega (arith, held, before))
     within
 keeps_limits at w (event.AccessWrite file id iova bytes) reply.Done none p accessed within = within
+keeps_limits at w (event.DirtyEnable file hwpt on) reply.Done none p accessed within = within
+keeps_limits at w (event.DirtyClear file request) (reply.Dirty words) none p accessed within = within
 keeps_limits at w e answer none p accessed within = within
 
 -- with what areas and pins keep

@@ -17,6 +17,7 @@ use Rattle.iofd_runs.proofs.NotRefused.{target_passed, user_map_passed, access_c
 use Rattle.iofd_runs.proofs.StillTabled.{in_kept}
 use Rattle.iofd_runs.proofs.PinnedAccess.{some_outcome}
 use Rattle.iofd_words.specs.Answers.{Answers, IsHwptFor, IsHwptOf, IsMappedAt, IsTarget, UnmapAnswers, write_reply}
+use Rattle.iofd_words.specs.Dirty.{reported_words}
 use Rattle.iofd_words.specs.Answers.{waits}
 use Rattle.iofd_words.specs.Areas.{touched_bytes, pending_errno, touched_tries}
 use Rattle.iofd_words.specs.Checks.{attach_checks, choices, has_choice, lacks_choice, lacks_room_for_hwpt, least}
@@ -221,3 +222,5 @@ module _ (at : ℕ) (w : World) (pins : ArePinned at w) (fits : RowsFit w) where
   some_answer (event.AccessPin file id request) none = (reply.Done, tt)
   some_answer (event.AccessUnpin file id request) none = (reply.Done, tt)
   some_answer (event.AccessWrite file id iova bytes) none = (reply.Done, tt)
+  some_answer (event.DirtyEnable file hwpt on) none = (reply.Done, tt)
+  some_answer (event.DirtyClear file request) none = (reply.Dirty (reported_words w.tracked file request), refl)

@@ -6,6 +6,7 @@ use Rattle.std.specs.List.{list_all, list_any}
 use Rattle.iofd_words.specs.Allowed.{AllowedRanges}
 use Rattle.iofd_words.specs.Answers.{Answers}
 use Rattle.iofd_words.specs.Areas.{is_of}
+use Rattle.iofd_words.specs.Dirty.{TrackedTable}
 use Rattle.iofd_words.specs.Files.{limit_of, user_of}
 use Rattle.iofd_words.specs.Frames.{is_reached}
 use Rattle.iofd_words.specs.Levels.{first_address, levels_of}
@@ -128,17 +129,21 @@ file_of w (event.AccessDetach file id) = Some file
 file_of w (event.AccessPin file id request) = Some file
 file_of w (event.AccessUnpin file id request) = Some file
 file_of w (event.AccessWrite file id iova bytes) = Some file
+file_of w (event.DirtyEnable file hwpt on) = Some file
+file_of w (event.DirtyClear file request) = Some file
 
 -- the event isn't of this file
 abbrev pub IsOfAnother : {A : Type 0} → World → Event A → FileNo → Type 0
 IsOfAnother w e file = (own : FileNo) → file_of w e ≡ Some own → own.0 ≢ file.0
 
--- what a file has: its objects, its areas and allowed ranges, its devices' attachments, and whether it is closed
+-- what a file has: its objects, its areas and allowed ranges, its devices' attachments, which of its page tables are
+-- tracked and their marks, and whether it is closed
 pub record FileRows : Type 0 where
   pub objects : List Object
   pub areas : List Area
   pub allowed : List AllowedRanges
   pub attachments : List Attachment
+  pub tracked : List TrackedTable
   pub closed : Bool
 
 abbrev pub rows_of : FileNo → World → FileRows
@@ -148,6 +153,7 @@ rows_of file w =
       areas = filter (λ area. area.file.0 == file.0) w.areas;
       allowed = filter (λ ranges. ranges.file.0 == file.0) w.allowed;
       attachments = filter (λ a. a.file.0 == file.0) w.attachments;
+      tracked = filter (λ table. table.file.0 == file.0) w.tracked;
       closed = list_any (λ f. f.0 == file.0) w.closed;
     }
 

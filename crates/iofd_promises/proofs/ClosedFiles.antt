@@ -10,6 +10,7 @@ use Rattle.iofd_words.specs.Checks.{allow_iovas_checks, bind_checks, close_check
 use Rattle.iofd_words.specs.Checks.{hwpt_alloc_checks, ioas_alloc_checks, map_checks, refusal, unbind_checks}
 use Rattle.iofd_words.specs.Checks.{unmap_checks, access_create_checks, access_attach_checks, access_detach_checks}
 use Rattle.iofd_words.specs.Checks.{access_pin_checks, access_unpin_checks, access_write_checks}
+use Rattle.iofd_words.specs.Checks.{dirty_checks, dirty_enable_checks}
 use Rattle.iofd_words.specs.Files.{is_open, user_of}
 use Rattle.iofd_words.specs.FirstTrue.{first_true}
 use Rattle.iofd_words.specs.Run.{IsRun, world_of}
@@ -164,7 +165,7 @@ refuses_gone : {A : Type 0} → (w : World) (e : Event A) (file : FileNo) → fi
     → is_open w.settings w.closed file ≡ false → refusal w e ≡ Some cause.Id
 unfolding ioas_alloc_checks allow_iovas_checks map_checks copy_checks unmap_checks hwpt_alloc_checks destroy_checks
     close_checks bind_checks unbind_checks access_create_checks access_attach_checks access_detach_checks
-    access_pin_checks access_unpin_checks access_write_checks
+    access_pin_checks access_unpin_checks access_write_checks dirty_enable_checks dirty_checks
 refuses_gone w (event.IoasAlloc f) file is gone = refuses w f file (ioas_alloc_checks (view w) f) is gone refl
 refuses_gone w (event.AllowIovas f ioas ranges) file is gone =
     refuses w f file (allow_iovas_checks (view w) f ioas ranges) is gone refl
@@ -188,6 +189,10 @@ refuses_gone w (event.AccessUnpin f id request) file is gone =
     refuses w f file (access_unpin_checks (view w) f id request) is gone refl
 refuses_gone w (event.AccessWrite f id iova bytes) file is gone =
     refuses w f file (access_write_checks (view w) f id iova bytes) is gone refl
+refuses_gone w (event.DirtyEnable f hwpt on) file is gone =
+    refuses w f file (dirty_enable_checks (view w) f hwpt) is gone refl
+refuses_gone w (event.DirtyClear f request) file is gone =
+    refuses w f file (dirty_checks (view w) f request) is gone refl
 refuses_gone w e file is gone = cc
 
 pub gone_refused : {A : Type 0} → (w : World) (e : Event A) (file : FileNo) → file_named e ≡ Some file → IsGone w file

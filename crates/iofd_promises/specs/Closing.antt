@@ -47,3 +47,5 @@ file_named (event.AccessDetach file id) = Some file
 file_named (event.AccessPin file id request) = Some file
 file_named (event.AccessUnpin file id request) = Some file
 file_named (event.AccessWrite file id iova bytes) = Some file
+file_named (event.DirtyEnable file hwpt on) = Some file
+file_named (event.DirtyClear file request) = Some file

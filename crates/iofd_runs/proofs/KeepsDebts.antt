@@ -103,6 +103,8 @@ keeps_owed at w (event.AccessDetach file id) reply.Done none answers own each =
 keeps_owed at w (event.AccessPin file id request) reply.Done none answers own each = each
 keeps_owed at w (event.AccessUnpin file id request) reply.Done none answers own each = each
 keeps_owed at w (event.AccessWrite file id iova bytes) reply.Done none answers own each = each
+keeps_owed at w (event.DirtyEnable file hwpt on) reply.Done none answers own each = each
+keeps_owed at w (event.DirtyClear file request) (reply.Dirty words) none answers own each = each
 keeps_owed at w e answer none answers own each = each
 
 pub keeps_sound : {A : Type 0} → (at : ℕ) (w : World) (e : Event A) (answer : Reply) → refusal w e ≡ None

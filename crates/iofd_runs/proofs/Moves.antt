@@ -32,6 +32,7 @@ use Rattle.iofd_words.specs.Checks.{lacks_room_for_hwpt, narrows, narrows_by_wid
 use Rattle.iofd_words.specs.Usable.{beyond, reserved_by}
 use Rattle.iofd_words.specs.Pages.{is_above_user}
 use Rattle.iofd_words.specs.Copies.{placed_as}
+use Rattle.iofd_words.specs.Dirty.{TrackedTable}
 use Rattle.iofd_words.specs.Files.{device_of, user_of}
 use Rattle.iofd_words.specs.Frames.{is_free, without_frame, FrameWrite}
 use Rattle.iofd_words.specs.Objects.{automatic_hwpt, binding_of, is_bound_as, is_bound_device, is_fresh, is_full}
@@ -372,15 +373,22 @@ object_moves at w e answer objects move same holders =
     (SameMemory refl refl) (SamePins refl (alike_objects w objects same)) (SameAllowed refl) (StayOpen refl) refl refl
     (SameAccessPins refl) holders
 
--- users' pages and what is written change
+-- users' pages and what is written change, and which pages were written by devices
 memory_moves : {A : Type 0} (at : ℕ) (w : World) (e : Event A) (answer : Reply) (pages : List UserPage)
-    (writes : List FrameWrite) → MemoryMoves w e answer (record w { user_pages = pages; writes = writes })
-    → Moves at w e answer (record w { user_pages = pages; writes = writes })
-memory_moves at w e answer pages writes move =
-    moves at w e answer (record w { user_pages = pages; writes = writes }) (Same refl) (SameAreas refl refl)
-    (SameAttachments refl) move (SamePins refl (record { memory = refl; accesses = refl; same = λ number. refl }))
+    (tracked : List TrackedTable) (writes : List FrameWrite)
+    → MemoryMoves w e answer (record w { user_pages = pages; tracked = tracked; writes = writes })
+    → Moves at w e answer (record w { user_pages = pages; tracked = tracked; writes = writes })
+memory_moves at w e answer pages tracked writes move =
+    moves at w e answer (record w { user_pages = pages; tracked = tracked; writes = writes }) (Same refl)
+    (SameAreas refl refl) (SameAttachments refl) move
+    (SamePins refl (record { memory = refl; accesses = refl; same = λ number. refl }))
     (SameAllowed refl) (StayOpen refl) refl refl (SameAccessPins refl)
     (λ none answers. same_accesses w)
+
+-- which pages were written by devices alone
+tracked_moves : {A : Type 0} (at : ℕ) (w : World) (e : Event A) (answer : Reply) (tracked : List TrackedTable)
+    → Moves at w e answer (record w { tracked = tracked })
+tracked_moves at w e answer tracked = memory_moves at w e answer w.user_pages tracked w.writes (SameMemory refl refl)
 
 -- access pins come or go, and pins follow
 access_moves : {A : Type 0} (at : ℕ) (w : World) (e : Event A) (answer : Reply) (access_pins : List AccessPin)
@@ -402,6 +410,7 @@ same_rest w new = record w {
   areas = new.areas;
   pins = new.pins;
   attachments = new.attachments;
+  tracked = new.tracked;
 }
 
 reach_moves : {A : Type 0} (at : ℕ) (w : World) (e : Event A) (answer : Reply) (new : World) → new ≡ same_rest w new
@@ -516,12 +525,12 @@ changed_moves at w (event.Close file) reply.Done =
     (FewerAllowed _ (λ f i. (_, allowed_closed file w.allowed f i)) refl) (Closes file refl refl refl) refl refl
     (SameAccessPins refl) (λ none answers. closed_accesses w file (close_passed (view w) file none).no_access)
 changed_moves at w (event.UserMap user va) (reply.Frame frame) =
-    memory_moves at w (event.UserMap user va) (reply.Frame frame) _ _
+    memory_moves at w (event.UserMap user va) (reply.Frame frame) _ _ _
     (OnePage user va frame (λ none. user_map_passed (view w) user va none) (λ answers. answers) refl refl refl)
 changed_moves at w (event.UserUnmap user va) reply.Done =
-    memory_moves at w (event.UserUnmap user va) reply.Done _ _ (FewerPages _ refl refl)
+    memory_moves at w (event.UserUnmap user va) reply.Done _ _ _ (FewerPages _ refl refl)
 changed_moves at w (event.UserWrite user va bytes) reply.Done =
-    memory_moves at w (event.UserWrite user va bytes) reply.Done _ _ (Written tt refl)
+    memory_moves at w (event.UserWrite user va bytes) reply.Done _ _ _ (Written tt refl)
 changed_moves at w (event.Bind file device) (reply.Id id) =
     object_moves at w (event.Bind file device) (reply.Id id) _
     (More (record { file = file; id = id; kind = kind.Device device }) (λ answers. answers)
@@ -587,7 +596,7 @@ changed_moves at w (event.Flush device) reply.Done =
     (SamePins refl (alike_phases w (λ a. paid device a.phase)))
     (λ none answers. same_accesses w)
 changed_moves at w (event.DeviceWrite device iova bytes) (reply.Passed frame) =
-    memory_moves at w (event.DeviceWrite device iova bytes) (reply.Passed frame) _ _ (Written tt refl)
+    memory_moves at w (event.DeviceWrite device iova bytes) (reply.Passed frame) _ _ _ (Written tt refl)
 changed_moves at w (event.AccessCreate file) (reply.Id id) =
     object_moves at w (event.AccessCreate file) (reply.Id id) _
     (More (record { file = file; id = id; kind = kind.Access None }) (λ answers. answers)
@@ -632,7 +641,9 @@ changed_moves at w (event.AccessUnpin file id request) reply.Done =
     (LessAccessPin pin refl (record { objects = refl; areas = refl; memory = refl })
     (λ none. (access_unpin_passed (view w) file id request none).held) refl)
 changed_moves at w (event.AccessWrite file id iova bytes) reply.Done =
-    memory_moves at w (event.AccessWrite file id iova bytes) reply.Done _ _ (Written tt refl)
+    memory_moves at w (event.AccessWrite file id iova bytes) reply.Done _ _ _ (Written tt refl)
+changed_moves at w (event.DirtyEnable file hwpt on) reply.Done = tracked_moves at w _ reply.Done _
+changed_moves at w (event.DirtyClear file request) (reply.Dirty words) = tracked_moves at w _ (reply.Dirty words) _
 changed_moves at w e answer = stays at w e answer
 
 -- ---- all areas

@@ -1,6 +1,6 @@
 -- What it says of a world, or of what a server shows of one, that nothing refuses an event: a fact for each row of the
 -- event's table, by a name of its own.
-use Rattle.std.proofs.Common.{◌≡◌, ℕ, ◌^◌, Bool, true, false, ◌&&◌, ◌||◌, not, eqb, leb, is_none, is_some, Option, Some}
+use Rattle.std.proofs.Common.{◌≡◌, ℕ, ◌^◌, ◌/◌, ltb, Bool, true, false, ◌&&◌, ◌||◌, not, eqb, leb, is_none, is_some, Option, Some}
 use Rattle.std.proofs.Common.{None, List, ◌∷◌, length, refl, subst}
 use Rattle.std.specs.List.{list_any}
 use Rattle.iofd_words.specs.Allowed.{are_ranges}
@@ -18,17 +18,19 @@ use Rattle.iofd_words.specs.Checks.{passes_limit_copied, passes_limit_mapped, re
 use Rattle.iofd_words.specs.Checks.{unbind_checks, unmap_checks, unusable_in, user_access_checks, user_map_checks}
 use Rattle.iofd_words.specs.Checks.{user_unmap_checks, user_write_checks}
 use Rattle.iofd_words.specs.Checks.{access_attach_checks, access_create_checks, access_detach_checks, waits_for_leaving}
+use Rattle.iofd_words.specs.Checks.{dirty_checks, dirty_enable_checks}
 use Rattle.iofd_words.specs.Copies.{placed_as}
 use Rattle.iofd_words.specs.Files.{device_of, is_device, is_user}
 use Rattle.iofd_words.specs.FirstTrue.{first_true}
 use Rattle.iofd_words.specs.Objects.{device_under, has_ioas, is_bound_device, is_full, kind_of, objects_of}
-use Rattle.iofd_words.specs.Objects.{settings_under, access_ioas_of, has_access, is_access}
+use Rattle.iofd_words.specs.Objects.{settings_under, access_ioas_of, has_access, is_access, is_hwpt_under}
 use Rattle.iofd_words.specs.Pages.{crosses, is_above_sum, is_above_user, is_whole, page_of}
 use Rattle.iofd_words.specs.Ranges.{meets_some}
 use Rattle.iofd_words.specs.Rights.{is_fixed, is_readable, is_writeable}
 use Rattle.iofd_words.specs.View.{View, view}
 use Rattle.iofd_words.specs.World.{World}
 use Rattle.iofd_words.specs.declared.event.CopyRequest.{CopyRequest}
+use Rattle.iofd_words.specs.declared.event.DirtyRequest.{DirtyRequest}
 use Rattle.iofd_words.specs.declared.event.Event.{Event}
 use Rattle.iofd_words.specs.declared.event.HwptRequest.{HwptRequest}
 use Rattle.iofd_words.specs.declared.event.MapRequest.{MapRequest}
@@ -570,4 +572,47 @@ access_detach_passed v file id none =
       there = not_not _ (tests_false rows 1 none);
       attached = tests_false rows 2 none;
       unpinned = tests_false rows 3 none;
+    }
+
+-- ---- tracking
+
+pub record DirtyEnablePassed (v : View) (file : FileNo) (hwpt : ObjId) : Type 0 where
+  pub opened : v.is_open file ≡ true
+  pub there : is_hwpt_under v.objects file hwpt ≡ true
+
+pub dirty_enable_passed : (v : View) (file : FileNo) (hwpt : ObjId) → first_true (dirty_enable_checks v file hwpt) ≡ None
+    → DirtyEnablePassed v file hwpt
+unfolding dirty_enable_checks
+dirty_enable_passed v file hwpt none =
+    let rows = dirty_enable_checks v file hwpt in
+    record {
+      opened = not_not _ (tests_false rows 0 none);
+      there = not_not _ (tests_false rows 1 none);
+    }
+
+pub record DirtyPassed (v : View) (file : FileNo) (request : DirtyRequest) : Type 0 where
+  pub opened : v.is_open file ≡ true
+  pub there : is_hwpt_under v.objects file request.hwpt ≡ true
+  pub sum : is_above_sum request.iova.0 request.length ≡ false
+  pub some : eqb request.length 0 ≡ false
+  pub whole : (is_whole request.length && is_whole request.iova.0) ≡ true
+  pub tracked : v.tracks file request.hwpt ≡ true
+  pub few : ltb 256 (request.length / 4096) ≡ false
+
+pub dirty_passed : (v : View) (file : FileNo) (request : DirtyRequest) → first_true (dirty_checks v file request) ≡ None
+    → DirtyPassed v file request
+unfolding dirty_checks
+dirty_passed v file request none =
+    let rows = dirty_checks v file request in
+    let aligned = or_false (eqb request.length 0) (not (is_whole request.length && is_whole request.iova.0))
+    (tests_false rows 3 none) in
+    let asked = or_false (not (v.tracks file request.hwpt)) (ltb 256 (request.length / 4096)) (tests_false rows 4 none) in
+    record {
+      opened = not_not _ (tests_false rows 0 none);
+      there = not_not _ (tests_false rows 1 none);
+      sum = tests_false rows 2 none;
+      some = aligned.0;
+      whole = not_not _ aligned.1;
+      tracked = not_not _ asked.0;
+      few = asked.1;
     }

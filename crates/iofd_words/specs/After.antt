@@ -1,6 +1,6 @@
 -- The world after an event that nothing refused, by the answer that the record has.
 use Rattle.std.specs.Prelude.{ℕ, ◌/◌, Bool, true, false, ◌==◌, ◌&&◌, not, Option, Some, None, List, []}
-use Rattle.std.specs.Prelude.{◌∷◌, ◌++◌}
+use Rattle.std.specs.Prelude.{◌∷◌, ◌++◌, if◌then◌else◌}
 use Rattle.std.specs.Prelude.{filter}
 use Rattle.std.specs.List.{list_any}
 use Rattle.iofd_words.specs.Accesses.{accessed_frame, pin_of}
@@ -9,6 +9,8 @@ use Rattle.iofd_words.specs.Areas.{areas_of, is_of, is_touched, with_area, with_
 use Rattle.iofd_words.specs.Attachments.{attachment_of, has_device_on, devices_of, with_attachment, without_attachment}
 use Rattle.iofd_words.specs.Bounds.{Bounds}
 use Rattle.iofd_words.specs.Copies.{placed_as, source_in}
+use Rattle.iofd_words.specs.Dirty.{TrackedTable, marked_by, reported_span, with_tracking, without_marks}
+use Rattle.iofd_words.specs.Dirty.{without_tracked}
 use Rattle.iofd_words.specs.Files.{user_of, device_of}
 use Rattle.iofd_words.specs.Frames.{frame_at, with_write, without_frame, without_page}
 use Rattle.iofd_words.specs.Objects.{automatic_hwpt, binding_of, is_automatic, is_object, kind_of, settings_under}
@@ -21,6 +23,7 @@ use Rattle.iofd_words.specs.Span.{span_from}
 use Rattle.iofd_words.specs.View.{view}
 use Rattle.iofd_words.specs.World.{World}
 use Rattle.iofd_words.specs.declared.event.CopyRequest.{CopyRequest}
+use Rattle.iofd_words.specs.declared.event.DirtyRequest.{DirtyRequest}
 use Rattle.iofd_words.specs.declared.event.Event.{Event}
 use Rattle.iofd_words.specs.declared.event.Event.TheVariants as event
 use Rattle.iofd_words.specs.declared.event.HwptRequest.{HwptRequest}
@@ -129,12 +132,18 @@ abbrev pub goes_with : List Attachment → Attachment → Object → Bool
 goes_with others a object =
     is_object a.file a.hwpt object && is_automatic object.kind && not (has_device_on others a.file a.hwpt)
 
+-- it is tracked no longer then
+abbrev pub tracked_without : List Attachment → Attachment → World → List TrackedTable
+tracked_without others a w =
+    if list_any (goes_with others a) w.objects then without_tracked a.file a.hwpt w.tracked else w.tracked
+
 unfoldable pub detached : World → DeviceNo → Attachment → World
 detached w device a =
     record w {
       objects = filter (λ object. not (goes_with (without_attachment device w.attachments) a object)) w.objects;
       attachments = without_attachment device w.attachments;
       areas = all_paid device w.areas;
+      tracked = tracked_without (without_attachment device w.attachments) a w;
     }
 
 -- the device translates by a page table that is there
@@ -211,6 +220,7 @@ destroyed w file id reply.Done =
     settle w (record (without_areas (is_of file id) w) {
       objects = without_object file id w.objects;
       allowed = without_allowed file id w.allowed;
+      tracked = without_tracked file id w.tracked;
     })
 destroyed w file id answer = w
 
@@ -220,6 +230,7 @@ file_closed w file reply.Done =
       objects = filter (λ object. not (object.file.0 == file.0)) w.objects;
       attachments = filter (λ a. not (a.file.0 == file.0)) w.attachments;
       allowed = filter (λ ranges. not (ranges.file.0 == file.0)) w.allowed;
+      tracked = filter (λ table. not (table.file.0 == file.0)) w.tracked;
       closed = w.closed ++ file ∷ [];
     })
 file_closed w file answer = w
@@ -265,11 +276,14 @@ abbrev pub device_flushed : World → DeviceNo → Reply → World
 device_flushed w device reply.Done = record w { areas = all_paid device w.areas }
 device_flushed w device answer = w
 
--- a write that was denied leaves the world as it was
-abbrev pub device_written : World → Iova → List ℕ → Reply → World
-device_written w iova bytes (reply.Passed frame) =
-    record w { writes = record { frame = frame.0; offset = offset_of iova.0; bytes = bytes } ∷ w.writes }
-device_written w iova bytes answer = w
+-- the page is marked, where the device's page table is tracked; a write that was denied leaves the world as it was
+abbrev pub device_written : World → DeviceNo → Iova → List ℕ → Reply → World
+device_written w device iova bytes (reply.Passed frame) =
+    record w {
+      tracked = marked_by (attachment_of w.attachments device) (page_of iova.0) w.tracked;
+      writes = record { frame = frame.0; offset = offset_of iova.0; bytes = bytes } ∷ w.writes;
+    }
+device_written w device iova bytes answer = w
 
 -- a new access object is attached to nothing
 abbrev pub access_created : World → FileNo → Reply → World
@@ -302,6 +316,17 @@ access_written w file id iova bytes reply.Done =
     record w { writes = with_write (accessed_frame (view w) file id iova.0) (offset_of iova.0) bytes w.writes }
 access_written w file id iova bytes answer = w
 
+-- from now on it is tracked, with no page marked, or it isn't
+abbrev pub tracking_set : World → FileNo → ObjId → Bool → Reply → World
+tracking_set w file hwpt on reply.Done = record w { tracked = with_tracking file hwpt on w.tracked }
+tracking_set w file hwpt on answer = w
+
+-- what was reported isn't marked any more
+abbrev pub marks_cleared : World → FileNo → DirtyRequest → Reply → World
+marks_cleared w file request (reply.Dirty words) =
+    record w { tracked = without_marks file request.hwpt (reported_span request) w.tracked }
+marks_cleared w file request answer = w
+
 -- the world after an event, at the record's position
 unfoldable pub changed : {A : Type 0} → ℕ → World → Event A → Reply → World
 changed at w (event.IoasAlloc file) answer = allocated w file answer
@@ -320,10 +345,12 @@ changed at w (event.Unbind file id) answer = device_unbound w file id answer
 changed at w (event.Attach device pt_id) answer = device_attached w device pt_id answer
 changed at w (event.Detach device) answer = device_detached w device answer
 changed at w (event.Flush device) answer = device_flushed w device answer
-changed at w (event.DeviceWrite device iova bytes) answer = device_written w iova bytes answer
+changed at w (event.DeviceWrite device iova bytes) answer = device_written w device iova bytes answer
 changed at w (event.AccessCreate file) answer = access_created w file answer
 changed at w (event.AccessAttach file id ioas) answer = access_attached w file id ioas answer
 changed at w (event.AccessDetach file id) answer = access_detached w file id answer
 changed at w (event.AccessPin file id request) answer = access_pinned w file id request answer
 changed at w (event.AccessUnpin file id request) answer = access_unpinned w file id request answer
 changed at w (event.AccessWrite file id iova bytes) answer = access_written w file id iova bytes answer
+changed at w (event.DirtyEnable file hwpt on) answer = tracking_set w file hwpt on answer
+changed at w (event.DirtyClear file request) answer = marks_cleared w file request answer

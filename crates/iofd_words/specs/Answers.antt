@@ -1,10 +1,11 @@
 -- What an event that nothing refuses may answer. Where the server may choose (an id, a frame, whether a
 -- device that owes a flush is still let through), each lawful choice is an answer.
-use Rattle.std.specs.Prelude.{◌≡◌, ℕ, Bool, true, false, not, Option, Some, None, map, Contains, IsTrue}
+use Rattle.std.specs.Prelude.{◌≡◌, ℕ, Bool, true, false, not, List, Option, Some, None, map, Contains, IsTrue}
 use Rattle.iofd_words.specs.Areas.{is_waiting, pending_errno, touched_bytes, touched_tries}
 use Rattle.iofd_words.specs.Attachments.{devices_of}
 use Rattle.iofd_words.specs.Checks.{may_choose}
 use Rattle.iofd_words.specs.Copies.{placed_as}
+use Rattle.iofd_words.specs.Dirty.{reported_words}
 use Rattle.iofd_words.specs.Files.{device_of}
 use Rattle.iofd_words.specs.Frames.{is_free}
 use Rattle.iofd_words.specs.Objects.{automatic_hwpt, binding_of, is_fresh, kind_of}
@@ -81,6 +82,11 @@ abbrev pub AnswersDone : Reply → Type 0
 AnswersDone reply.Done = Unit {0}
 AnswersDone answer = ⊥
 
+-- the words of a report that clears
+abbrev pub AnswersDirty : List ℕ → Reply → Type 0
+AnswersDirty words (reply.Dirty told) = told ≡ words
+AnswersDirty words answer = ⊥
+
 -- an UNMAP waits for the devices that are attached, and for access pins
 abbrev pub waits : World → FileNo → UnmapRequest → Bool
 waits w file request =
@@ -128,3 +134,5 @@ Answers w (event.AccessDetach file id) answer = AnswersDone answer
 Answers w (event.AccessPin file id request) answer = AnswersDone answer
 Answers w (event.AccessUnpin file id request) answer = AnswersDone answer
 Answers w (event.AccessWrite file id iova bytes) answer = AnswersDone answer
+Answers w (event.DirtyEnable file hwpt on) answer = AnswersDone answer
+Answers w (event.DirtyClear file request) answer = AnswersDirty (reported_words w.tracked file request) answer

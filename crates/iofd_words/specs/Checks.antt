@@ -16,7 +16,7 @@ use Rattle.iofd_words.specs.Copies.{is_writable, placed_as, source_in}
 use Rattle.iofd_words.specs.FirstTrue.{first_true}
 use Rattle.iofd_words.specs.Objects.{kind_of, has_ioas, has_hwpt, automatic_hwpt, is_full, is_hwpt_over, objects_of}
 use Rattle.iofd_words.specs.Objects.{access_ioas_of, device_in, device_under, has_access, has_access_to, is_access}
-use Rattle.iofd_words.specs.Objects.{is_bound_device, settings_under}
+use Rattle.iofd_words.specs.Objects.{is_bound_device, is_hwpt_under, settings_under}
 use Rattle.iofd_words.specs.Pages.{is_whole, page_of, is_above_sum, is_above_user, crosses}
 use Rattle.iofd_words.specs.Pins.{ObjectPage, unpinned_pages}
 use Rattle.iofd_words.specs.Ranges.{meets_some}
@@ -30,6 +30,7 @@ use Rattle.iofd_words.specs.View.{View, view}
 use Rattle.iofd_words.specs.Width.{bits_of}
 use Rattle.iofd_words.specs.World.{World}
 use Rattle.iofd_words.specs.declared.event.CopyRequest.{CopyRequest}
+use Rattle.iofd_words.specs.declared.event.DirtyRequest.{DirtyRequest}
 use Rattle.iofd_words.specs.declared.event.Event.{Event}
 use Rattle.iofd_words.specs.declared.event.Event.TheVariants as event
 use Rattle.iofd_words.specs.declared.event.HwptRequest.{HwptRequest}
@@ -536,6 +537,22 @@ held_access_checks v file id iova len kind =
 unfoldable pub access_write_checks : View → FileNo → ObjId → Iova → List ℕ → List (Cause × Bool)
 access_write_checks v file id iova bytes = held_access_checks v file id iova (length bytes) Write
 
+unfoldable pub dirty_enable_checks : View → FileNo → ObjId → List (Cause × Bool)
+dirty_enable_checks v file hwpt =
+    (cause.Id, not (v.is_open file))
+    ∷ (cause.Id, not (is_hwpt_under v.objects file hwpt))
+    ∷ []
+
+-- those of a report of written pages, whether it clears them or not
+unfoldable pub dirty_checks : View → FileNo → DirtyRequest → List (Cause × Bool)
+dirty_checks v file request =
+    (cause.Id, not (v.is_open file))
+    ∷ (cause.Id, not (is_hwpt_under v.objects file request.hwpt))
+    ∷ (cause.Sum, is_above_sum request.iova.0 request.length)
+    ∷ (cause.Align, request.length == 0 || not (is_whole request.length && is_whole request.iova.0))
+    ∷ (cause.Tracking, not (v.tracks file request.hwpt) || nat_lt 256 (request.length / 4096))
+    ∷ []
+
 -- the refusals of each event
 abbrev pub checks : {A : Type 0} → View → Event A → List (Cause × Bool)
 checks v (event.IoasAlloc file) = ioas_alloc_checks v file
@@ -561,6 +578,8 @@ checks v (event.AccessDetach file id) = access_detach_checks v file id
 checks v (event.AccessPin file id request) = access_pin_checks v file id request
 checks v (event.AccessUnpin file id request) = access_unpin_checks v file id request
 checks v (event.AccessWrite file id iova bytes) = access_write_checks v file id iova bytes
+checks v (event.DirtyEnable file hwpt on) = dirty_enable_checks v file hwpt
+checks v (event.DirtyClear file request) = dirty_checks v file request
 
 -- the cause for which an event is refused, if any
 abbrev pub refusal : {A : Type 0} → World → Event A → Option Cause

@@ -9,6 +9,8 @@ pub mod Burst
 pub mod Checks
 pub mod Copies
 pub mod DeviceSet
+pub mod Dirty
+pub mod DirtyWords
 pub mod Fault
 pub mod Files
 pub mod FirstTrue

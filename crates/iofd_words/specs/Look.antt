@@ -6,7 +6,8 @@ use Rattle.std.specs.Option.{option_map}
 use Rattle.iofd_words.specs.Attachments.{attachment_of}
 use Rattle.iofd_words.specs.Bounds.{Bounds}
 use Rattle.iofd_words.specs.Accesses.{accessed_frame}
-use Rattle.iofd_words.specs.Checks.{access_checks, held_access_checks, unusable_in, user_access_checks}
+use Rattle.iofd_words.specs.Checks.{access_checks, dirty_checks, held_access_checks, unusable_in, user_access_checks}
+use Rattle.iofd_words.specs.Dirty.{reported_words}
 use Rattle.iofd_words.specs.FirstTrue.{first_true}
 use Rattle.iofd_words.specs.Frames.{bytes_at, frame_at, free_count}
 use Rattle.iofd_words.specs.Files.{is_device, is_user}
@@ -31,7 +32,7 @@ use Rattle.iofd_words.specs.declared.numbers.ObjId.{ObjId}
 use Rattle.iofd_words.specs.declared.query.Answer.{Answer}
 use Rattle.iofd_words.specs.declared.query.Answer.TheVariants as answer
 use Rattle.iofd_words.specs.declared.query.Query.{Query}
-use Rattle.iofd_words.specs.declared.query.Query.TheVariants.{AccessRead, AttachedTo, CachedRead, DeviceRead}
+use Rattle.iofd_words.specs.declared.query.Query.TheVariants.{AccessRead, AttachedTo, CachedRead, DeviceRead, Dirty}
 use Rattle.iofd_words.specs.declared.query.Query.TheVariants.{FreeFrames, Held, Turns, UserRead, WalkFor}
 use Rattle.iofd_words.specs.declared.record.Record.{Record}
 use Rattle.iofd_words.specs.declared.refusal.Cause.{Cause}
@@ -48,6 +49,7 @@ query_checks v (AttachedTo device) = (cause.Id, not (is_device v.settings device
 query_checks v (Turns device) = (cause.Id, not (is_device v.settings device)) ∷ []
 query_checks v (WalkFor device iova) = (cause.Id, not (is_device v.settings device)) ∷ []
 query_checks v (CachedRead device iova len frame) = access_checks v device iova len
+query_checks v (Dirty file request) = dirty_checks v file request
 
 -- those of the question for an address space's usable ranges
 abbrev pub ranges_checks : View → FileNo → ObjId → List (Cause × Bool)
@@ -101,6 +103,7 @@ lawful_answers w records (AttachedTo device) =
 lawful_answers w records (Turns device) = answer.Count (turns_of device records) ∷ []
 lawful_answers w records (WalkFor device iova) = answer.Walk (translation (view w) device iova.0) ∷ []
 lawful_answers w records (CachedRead device iova len frame) = cached_answers w device iova len frame
+lawful_answers w records (Dirty file request) = answer.Dirty (reported_words w.tracked file request) ∷ []
 
 -- all lawful answers, in this world and after these records
 unfoldable pub answers_in : {A : Type 0} → World → List (Record A) → Query → List Answer

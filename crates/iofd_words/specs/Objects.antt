@@ -102,6 +102,10 @@ objects_of objects file = filter (λ object. object.file.0 == file.0) objects
 abbrev pub has_ioas : List Object → FileNo → ObjId → Bool
 has_ioas objects file id = elim (kind_of objects file id) [ Some kind ↦ is_ioas kind | None ↦ false ]
 
+-- the file has an object of this id, and it is a hardware page table
+abbrev pub is_hwpt_under : List Object → FileNo → ObjId → Bool
+is_hwpt_under objects file id = elim (kind_of objects file id) [ Some kind ↦ is_hwpt kind | None ↦ false ]
+
 -- the address space has a hardware page table
 abbrev pub has_hwpt : List Object → FileNo → ObjId → Bool
 has_hwpt objects file ioas = list_any (λ object. object.file.0 == file.0 && is_hwpt_over ioas object.kind) objects

@@ -45,6 +45,7 @@ row_of cause.Cross = row 26 EINVAL
 row_of cause.InterruptRange = row 27 EINVAL
 row_of cause.Unattached = row 28 ENOENT
 row_of cause.Pending = row 29 EBUSY
+row_of cause.Tracking = row 30 EINVAL
 
 abbrev pub number_of : Cause → ℕ
 number_of cause = (row_of cause).number

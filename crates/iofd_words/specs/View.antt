@@ -4,6 +4,7 @@ use Rattle.std.specs.Prelude.{ℕ, Bool, Option, List}
 use Rattle.iofd_words.specs.Allowed.{allowed_of}
 use Rattle.iofd_words.specs.Areas as area
 use Rattle.iofd_words.specs.Bounds.{Bounds}
+use Rattle.iofd_words.specs.Dirty as dirty
 use Rattle.iofd_words.specs.Files as file
 use Rattle.iofd_words.specs.Frames as frame
 use Rattle.iofd_words.specs.Objects as object
@@ -60,6 +61,8 @@ pub record View : Type 0 where
   pub free_count : ℕ
   -- the page table of this id has this table
   pub has_table : FileNo → ObjId → TablePlace → Bool
+  -- the pages that devices write through the page table of this id are tracked
+  pub tracks : FileNo → ObjId → Bool
 
 -- what they read of this world
 abbrev pub view : World → View
@@ -84,4 +87,5 @@ view w =
       held_by = pin.held_by (pin.pinned_frame w.pins) w.memory;
       free_count = frame.free_count w.settings.pool w.user_pages w.pins w.table_frames;
       has_table = places.has_table w.table_frames;
+      tracks = dirty.tracks w.tracked;
     }

@@ -1,6 +1,7 @@
 -- The world: lists of rows, as the events have left them.
 use Rattle.std.specs.Prelude.{List, []}
 use Rattle.iofd_words.specs.Allowed.{AllowedRanges}
+use Rattle.iofd_words.specs.Dirty.{TrackedTable}
 use Rattle.iofd_words.specs.Frames.{FrameWrite}
 use Rattle.iofd_words.specs.Settings.{Settings}
 use Rattle.iofd_words.specs.declared.numbers.FileNo.{FileNo}
@@ -36,6 +37,8 @@ pub record World : Type 0 where
   pub access_pins : List AccessPin
   -- the frames that hold the tables of page tables
   pub table_frames : List TableFrame
+  -- the page tables whose written pages are tracked
+  pub tracked : List TrackedTable
   -- what was written into frames, newest first
   pub writes : List FrameWrite
 
@@ -54,5 +57,6 @@ opening settings =
       attachments = [];
       access_pins = [];
       table_frames = [];
+      tracked = [];
       writes = [];
     }

@@ -59,6 +59,15 @@ pub struct PinRequest {
     pub write: bool,
 }
 
+/// Which pages of an address space are asked for by DIRTY_REPORT (this project's own command): those of a span that were
+/// written through the page table of this id. The length and the address are in bytes.
+#[derive(Clone, Copy)]
+pub struct DirtyRequest {
+    pub hwpt: ObjId,
+    pub iova: Iova,
+    pub length: u64,
+}
+
 /// A step that is recorded. One with a list owns it.
 #[derive(Drop)]
 pub enum Event<A: Allocator = Global> {
@@ -108,6 +117,11 @@ pub enum Event<A: Allocator = Global> {
     AccessUnpin(FileNo, ObjId, PinRequest),
     /// Writes memory at an address that one of its pins covers.
     AccessWrite(FileNo, ObjId, Iova, Burst),
+    /// DIRTY_ENABLE: the pages that devices write through the page table of this id are tracked from now on, or no
+    /// more. None is marked then.
+    DirtyEnable(FileNo, ObjId, bool),
+    /// DIRTY_REPORT that clears: tells which pages of a span were written, and takes their marks away.
+    DirtyClear(FileNo, DirtyRequest),
 }
 
 impl<A: Allocator + Copy> Event<A> {
@@ -145,6 +159,8 @@ impl<A: Allocator + Copy> Event<A> {
             Event::AccessWrite(file, id, iova, bytes) => {
                 Event::AccessWrite(*file, *id, *iova, *bytes)
             }
+            Event::DirtyEnable(file, hwpt, on) => Event::DirtyEnable(*file, *hwpt, *on),
+            Event::DirtyClear(file, request) => Event::DirtyClear(*file, *request),
         })
     }
 }

@@ -24,7 +24,9 @@ pub use burst::Burst;
 pub use call_error::CallError;
 pub use config::{Config, ConfigError, DeviceConfig};
 pub use device_set::DeviceSet;
-pub use event::{Act, CopyRequest, Event, HwptRequest, MapRequest, PinRequest, UnmapRequest};
+pub use event::{
+    Act, CopyRequest, DirtyRequest, Event, HwptRequest, MapRequest, PinRequest, UnmapRequest,
+};
 pub use fault::{AccessKind, Fault, FaultReason};
 pub use flags::{MapFlags, Rights};
 pub use lists::{FrameList, SpanList};

@@ -1,6 +1,7 @@
 //! Questions that change nothing, and their answers.
 
 use crate::burst::Burst;
+use crate::event::DirtyRequest;
 use crate::fault::Fault;
 use crate::flags::Rights;
 use crate::numbers::{DeviceNo, FileNo, FrameNo, Iova, ObjId, UserNo};
@@ -56,6 +57,11 @@ pub enum Query {
         len: u8,
         frame: FrameNo,
     },
+    /// DIRTY_REPORT that doesn't clear: which pages of a span were written through a page table of the file.
+    Dirty {
+        file: FileNo,
+        request: DirtyRequest,
+    },
 }
 
 /// The answer to a question.
@@ -71,6 +77,8 @@ pub enum Answer {
     Walk(Option<Translation>),
     /// The access was denied.
     Fault(Fault),
+    /// Which pages of a span were written: bit k of word j is its page 64 * j + k, counted from 0.
+    Dirty([u64; 4]),
     /// The question was refused.
     Refused(Refusal),
 }

@@ -97,10 +97,12 @@ pub enum Cause {
     Unattached = 28,
     /// The first hardware page table while an area is leaving.
     Pending = 29,
+    /// A hardware page table whose written pages aren't tracked, or more than 256 pages at once.
+    Tracking = 30,
 }
 
 impl Cause {
-    /// The number of the refusal, 1 to 29.
+    /// The number of the refusal, 1 to 30.
     pub fn number(self) -> u8
         ensures { result ≡ number_of self }
     {
@@ -135,7 +137,8 @@ impl Cause {
             | Cause::Reserved
             | Cause::List
             | Cause::Cross
-            | Cause::InterruptRange => Errno::EINVAL,
+            | Cause::InterruptRange
+            | Cause::Tracking => Errno::EINVAL,
         }
     }
 }
@@ -147,7 +150,7 @@ pub struct Refusal {
 }
 
 impl Refusal {
-    /// The number of the refusal, 1 to 29.
+    /// The number of the refusal, 1 to 30.
     pub fn number(self) -> u8
         ensures { result ≡ number_of self.cause }
     {

@@ -22,6 +22,8 @@ pub enum Reply {
     Passed(FrameNo),
     /// A device's access that was denied.
     Fault(Fault),
+    /// Which pages of a span were written: bit k of word j is its page 64 * j + k, counted from 0.
+    Dirty([u64; 4]),
     /// A refused event, which changed nothing.
     Refused(Refusal),
 }

@@ -63,6 +63,7 @@ read_bytes (Some (Ok (answer.Read bytes))) = bytes
 read_bytes (Some (Ok (answer.Count count))) = []
 read_bytes (Some (Ok (answer.Attached hwpt))) = []
 read_bytes (Some (Ok (answer.Walk translation))) = []
+read_bytes (Some (Ok (answer.Dirty words))) = []
 read_bytes (Some (Ok (answer.Fault fault))) = []
 read_bytes (Some (Ok (answer.Refused refusal))) = []
 read_bytes (Some (Err refused)) = []

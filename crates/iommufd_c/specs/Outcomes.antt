@@ -33,6 +33,7 @@ reply_outcome place (reply.Bytes count) = record (made_at place) { value = count
 reply_outcome place (reply.Pending errno) = made_at place
 reply_outcome place (reply.Frame frame) = record (made_at place) { value = frame.0 }
 reply_outcome place (reply.Passed frame) = record (made_at place) { value = frame.0 }
+reply_outcome place (reply.Dirty words) = made_at place
 reply_outcome place (reply.Fault fault) = record (made_at place) { fault = reason_number fault.reason }
 reply_outcome place (reply.Refused refusal) = record (made_at place) { cause = number_of refusal.cause }
 
@@ -49,6 +50,7 @@ look_outcome (Some (Ok (answer.Read bytes))) = record nothing { value = length b
 look_outcome (Some (Ok (answer.Count count))) = record nothing { value = count }
 look_outcome (Some (Ok (answer.Attached hwpt))) = nothing
 look_outcome (Some (Ok (answer.Walk translation))) = nothing
+look_outcome (Some (Ok (answer.Dirty words))) = nothing
 look_outcome (Some (Ok (answer.Fault fault))) = record nothing { fault = reason_number fault.reason }
 look_outcome (Some (Ok (answer.Refused refusal))) = record nothing { cause = number_of refusal.cause }
 look_outcome (Some (Err refused)) = nothing

@@ -73,6 +73,7 @@ reply_status (reply.Bytes count) = done
 reply_status (reply.Pending errno) = error_status errno
 reply_status (reply.Frame frame) = done
 reply_status (reply.Passed frame) = done
+reply_status (reply.Dirty words) = done
 reply_status (reply.Fault fault) = denied
 reply_status (reply.Refused refusal) = error_status (errno_of refusal.cause)
 
@@ -88,6 +89,7 @@ look_status (Some (Ok (answer.Read bytes))) = done
 look_status (Some (Ok (answer.Count count))) = done
 look_status (Some (Ok (answer.Attached hwpt))) = done
 look_status (Some (Ok (answer.Walk translation))) = done
+look_status (Some (Ok (answer.Dirty words))) = done
 look_status (Some (Ok (answer.Fault fault))) = denied
 look_status (Some (Ok (answer.Refused refusal))) = error_status (errno_of refusal.cause)
 look_status (Some (Err refused)) = not_now

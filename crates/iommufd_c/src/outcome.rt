@@ -41,7 +41,7 @@ fn reply_outcome(at: u64, reply: &Reply) -> Outcome
         ..NOTHING
     };
     match *reply {
-        Reply::Done | Reply::Pending(_) => made,
+        Reply::Done | Reply::Pending(_) | Reply::Dirty(_) => made,
         Reply::Id(id) => Outcome {
             value: u64::from(id.0),
             ..made
@@ -100,7 +100,8 @@ pub(crate) fn look_outcome(told: &Option<Result<Answer, NotNow>>) -> Outcome
             cause: u16::from(refusal.number()),
             ..NOTHING
         },
-        Some(Ok(Answer::Attached(_) | Answer::Walk(_))) | Some(Err(_)) | None => NOTHING,
+        Some(Ok(Answer::Attached(_) | Answer::Walk(_) | Answer::Dirty(_))) | Some(Err(_)) | None =>
+            { NOTHING }
     }
 }
 

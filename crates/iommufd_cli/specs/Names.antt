@@ -36,6 +36,7 @@ cause_name cause.Cross = codes "Cross"
 cause_name cause.InterruptRange = codes "InterruptRange"
 cause_name cause.Unattached = codes "Unattached"
 cause_name cause.Pending = codes "Pending"
+cause_name cause.Tracking = codes "Tracking"
 
 -- whether memory was read or written
 abbrev pub kind_name : AccessKind → List ℕ

@@ -4,6 +4,7 @@ use Rattle.std.specs.Prelude.{codes, decimal, if◌then◌else◌}
 use Rattle.std.specs.List.{flat_map}
 use Rattle.std.specs.Int.{w16, to_be_bytes}
 use Rattle.std.specs.Fmt.{digits}
+use Rattle.std.specs.declared.alloc.Global.{Global}
 use Rattle.hex.specs.Hex.{encode_lower}
 use Rattle.iofd_words.specs.Refusal.{errno_of, errno_number}
 use Rattle.iofd_words.specs.Fault.{reason_number}
@@ -15,11 +16,13 @@ use Rattle.iofd_words.specs.declared.reply.Reply.TheVariants as reply
 use Rattle.iofd_words.specs.declared.query.Answer.{Answer}
 use Rattle.iofd_words.specs.declared.query.Answer.TheVariants as answer
 use Rattle.iofd_words.specs.Bounds.{Bounds}
+use Rattle.iofd_words.specs.declared.event.DirtyRequest.{DirtyRequest}
 use Rattle.iofd_words.specs.declared.event.Event.{Event}
 use Rattle.iofd_words.specs.declared.refusal.Cause.TheVariants as cause
 use Rattle.ioctl_codec.specs.Events.{command_of}
 use Rattle.ioctl_codec.specs.Spelling.{ranges_written_back, written_back}
 use Rattle.ioctl_codec.specs.declared.command.Command.{Command}
+use Rattle.ioctl_codec.specs.declared.command.Command.TheVariants as command
 use Rattle.ioctl_codec.specs.declared.command.RangesRequest.{RangesRequest}
 use Rattle.iommufd_cli.specs.Names.{cause_name, kind_name}
 
@@ -60,6 +63,7 @@ reply_text (reply.Bytes count) = codes "ok"
 reply_text (reply.Pending errno) = pending_text errno
 reply_text (reply.Frame frame) = codes "ok frame " ++ decimal frame.0
 reply_text (reply.Passed frame) = codes "ok"
+reply_text (reply.Dirty words) = codes "ok"
 reply_text (reply.Fault fault) = fault_text fault
 reply_text (reply.Refused refusal) = refusal_text refusal.cause
 
@@ -78,6 +82,7 @@ ioctl_text command (reply.Bytes count) = written_text command (reply.Bytes count
 ioctl_text command (reply.Frame frame) = written_text command (reply.Frame frame)
 ioctl_text command (reply.Passed frame) = written_text command (reply.Passed frame)
 ioctl_text command (reply.Fault fault) = written_text command (reply.Fault fault)
+ioctl_text command (reply.Dirty words) = written_text command (reply.Dirty words)
 
 -- the reply to an event: a command's is told as an ioctl's
 abbrev pub event_text : {A : Type 0} → Event A → Reply → List ℕ
@@ -99,8 +104,15 @@ answer_text (answer.Attached (Some id)) = codes "ok id " ++ decimal id.0
 answer_text (answer.Attached None) = codes "ok"
 answer_text (answer.Walk (Some to)) = codes "ok frame " ++ decimal to.frame.0
 answer_text (answer.Walk None) = codes "ok"
+answer_text (answer.Dirty words) = codes "ok"
 answer_text (answer.Fault fault) = fault_text fault
 answer_text (answer.Refused refusal) = refusal_text refusal.cause
+
+-- a report of written pages that doesn't clear: an ioctl, whose words are written back as a reply's are
+abbrev pub report_text : DirtyRequest → Answer → List ℕ
+report_text request (answer.Dirty words) =
+    ioctl_text {A = Global} (command.DirtyReport request false) (reply.Dirty words)
+report_text request other = answer_text other
 
 -- a notice: the first and the last address of its span, in hex with no leading zeros
 abbrev pub notice_text : Bounds → List ℕ

@@ -7,6 +7,7 @@ use Rattle.iofd_words.specs.FirstTrue.{first_true}
 use Rattle.iofd_words.specs.Look.{AreUsableRanges, answers_to, notices_checks, ranges_checks}
 use Rattle.iofd_words.specs.Run.{IsRun}
 use Rattle.iofd_words.specs.View.{view}
+use Rattle.iofd_words.specs.declared.event.DirtyRequest.{DirtyRequest}
 use Rattle.iofd_words.specs.declared.event.Event.{Event}
 use Rattle.iofd_words.specs.declared.event.Event.TheVariants as event
 use Rattle.iofd_words.specs.declared.numbers.FileNo.{FileNo}
@@ -25,7 +26,7 @@ use Rattle.ioctl_codec.specs.declared.events.Asked.{Asked}
 use Rattle.ioctl_codec.specs.declared.events.Asked.TheVariants as asks
 use Rattle.ioctl_codec.specs.declared.command.RangesRequest.{RangesRequest}
 use Rattle.iommufd_cli.specs.Replies.{answer_text, event_text, line, memory_text, notices_text, ranges_text}
-use Rattle.iommufd_cli.specs.Replies.{refusal_text}
+use Rattle.iommufd_cli.specs.Replies.{refusal_text, report_text}
 use Rattle.server_state.specs.Choice.{IsChosen, IsLooked}
 use Rattle.iommufd_core.specs.History.{HasOneMore, world}
 use Rattle.iommufd_core.specs.Server.{MayWant, Server}
@@ -90,10 +91,18 @@ module _ {A : Type 0} where
         | None ↦ AreNotices (notices (view (world s.history)) file access) text
       ]
 
-  -- what a command of a file asks for: an event, or the ranges
+  -- the question which pages were written: nothing changes, and the line tells the answer
+  abbrev pub IsReport : Server A → FileNo → DirtyRequest → List ℕ → Server A → Type 0
+  IsReport s file request text after =
+      (after ≡ s) × (answer : Answer)
+      × IsLooked (answers_to s.history.settings s.history.records (query.Dirty file request)) answer
+      × (text ≡ line (report_text request answer))
+
+  -- what a command of a file asks for: an event, the ranges, or which pages were written
   abbrev pub IsServed : Server A → FileNo → Asked A → List ℕ → Server A → Type 0
   IsServed s file (asks.Event e) text after = IsApplied s e text after
   IsServed s file (asks.Ranges request) text after = IsRanges s file request text after
+  IsServed s file (asks.Dirty request) text after = IsReport s file request text after
 
   -- bytes that spell no command are refused
   pub record IsUndecoded (s : Server A) (number : ℕ) (bytes text : List ℕ) (after : Server A) : Type 0 where

@@ -40,6 +40,7 @@ pub fn name_of_cause(cause: Cause) -> &'static [u8]
         Cause::InterruptRange => b"InterruptRange",
         Cause::Unattached => b"Unattached",
         Cause::Pending => b"Pending",
+        Cause::Tracking => b"Tracking",
     }
 }
 

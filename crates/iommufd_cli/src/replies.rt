@@ -6,11 +6,12 @@ ghost use Rattle.hex.specs.Hex.{encode_lower};
 ghost use Rattle.iommufd_cli.specs.Replies.{line, refusal_text, pending_text, memory_text, no_memory_text};
 ghost use Rattle.iommufd_cli.specs.Replies.{bad_line_text, fault_text, reply_text, written_text, ioctl_text};
 ghost use Rattle.iommufd_cli.specs.Replies.{answer_text, notice_text, notices_text, places_text, ranges_text};
+ghost use Rattle.iommufd_cli.specs.Replies.{report_text};
 
 use crate::line::Line;
 use crate::names::{name_of_cause, name_of_kind};
 use ioctl_codec::{Command, RangesRequest, encode_ranges, encode_reply_to};
-use iofd_words::{Answer, Cause, Errno, Fault, NoMemory, Refusal, Reply, Span};
+use iofd_words::{Answer, Cause, DirtyRequest, Errno, Fault, NoMemory, Refusal, Reply, Span};
 use std::alloc::Allocator;
 
 impl Line {
@@ -20,7 +21,8 @@ impl Line {
         ensures { self.new ≡ line (reply_text reply.now) }
     {
         match *reply {
-            Reply::Done | Reply::Iova(_) | Reply::Bytes(_) | Reply::Passed(_) => self.tell(b"ok"),
+            Reply::Done | Reply::Iova(_) | Reply::Bytes(_) | Reply::Passed(_) | Reply::Dirty(_) =>
+                self.tell(b"ok"),
             Reply::Id(id) => self.tell_number(b"ok id ", u64::from(id.0)),
             Reply::Frame(frame) => self.tell_number(b"ok frame ", u64::from(frame.0)),
             Reply::Pending(errno) => self.tell_pending(errno),
@@ -30,7 +32,7 @@ impl Line {
     }
 
     /// Tells a reply to an ioctl that was given this command: the errno and the cause of a refusal, the errno
-    /// and `Pending`, and for any other reply `0` and in hex what is written back, at most 40 bytes. A line
+    /// and `Pending`, and for any other reply `0` and in hex what is written back, at most 64 bytes. A line
     /// feed ends it.
     pub fn tell_ioctl<A: Allocator>(&mut self, command: &Command<A>, reply: &Reply)
         ensures { self.new ≡ line (ioctl_text command.now reply.now) }
@@ -52,9 +54,23 @@ impl Line {
             Answer::Count(count) => self.tell_number(b"ok ", *count),
             Answer::Attached(Some(id)) => self.tell_number(b"ok id ", u64::from(id.0)),
             Answer::Walk(Some(to)) => self.tell_number(b"ok frame ", u64::from(to.frame.0)),
-            Answer::Attached(None) | Answer::Walk(None) => self.tell(b"ok"),
+            Answer::Attached(None) | Answer::Walk(None) | Answer::Dirty(_) => self.tell(b"ok"),
             Answer::Fault(fault) => self.tell_fault(*fault),
             Answer::Refused(refusal) => self.tell_refusal(*refusal),
+        }
+    }
+
+    /// Tells the answer to a report of written pages that doesn't clear, as an ioctl's: `0` and in hex what is written
+    /// back, or the errno and the cause of a refusal. A line feed ends it.
+    pub fn tell_report(&mut self, request: DirtyRequest, answer: &Answer)
+        ensures { self.new ≡ line (report_text request answer.now) }
+    {
+        match answer {
+            Answer::Dirty(words) => {
+                let command: Command = Command::DirtyReport(request, false);
+                self.tell_written(&command, &Reply::Dirty(*words));
+            }
+            _ => self.tell_answer(answer),
         }
     }
 

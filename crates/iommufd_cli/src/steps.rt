@@ -3,7 +3,7 @@
 ghost use Rattle.std.specs.Prelude.{◌≡◌, ◌⊎◌, ◌<◌, ◌^◌, IsTrue, length};
 ghost use Rattle.iommufd_cli.specs.Replies.{event_text, line, memory_text, ranges_text};
 ghost use Rattle.iommufd_cli.specs.Steps.{AreNotices, IsAnswered, IsApplied, IsAsked, IsDecoded, IsIoctl, IsNotices};
-ghost use Rattle.iommufd_cli.specs.Steps.{IsRanges, IsServed, text_of};
+ghost use Rattle.iommufd_cli.specs.Steps.{IsRanges, IsReport, IsServed, text_of};
 ghost use Rattle.ioctl_codec.specs.Events.{asked};
 ghost use Rattle.iommufd_core.specs.History.{may_look};
 ghost use Rattle.iofd_words.specs.declared.event.Event.TheVariants as event;
@@ -12,7 +12,7 @@ ghost use Rattle.iofd_words.specs.declared.query.Query.TheVariants as query;
 use crate::line::Line;
 use crate::replies::{notices_line, ranges_line};
 use ioctl_codec::{Asked, Command, DecodeError, RangesRequest, decode};
-use iofd_words::{Act, CallError, Event, FileNo, ObjId, PassNo, Query, Reply, Span};
+use iofd_words::{Act, CallError, DirtyRequest, Event, FileNo, ObjId, PassNo, Query, Reply, Span};
 use iommufd_core::Core;
 use iommufd_script::{HexBytes, Step};
 use std::alloc::Allocator;
@@ -196,7 +196,22 @@ fn answer_command<A: Allocator + Copy>(
     match command.asked(file) {
         Asked::Event(event) => answer_event(core, event, out),
         Asked::Ranges(request) => answer_ranges(alloc, core, file, request, out),
+        Asked::Dirty(request) => answer_report(core, file, request, out),
     }
+}
+
+// The line for the question which pages were written: always a short one.
+fn answer_report<A: Allocator>(
+    core: &Core<A>,
+    file: FileNo,
+    request: DirtyRequest,
+    out: &mut Line,
+) -> Option<Vec<u8, A>>
+    ensures { IsReport core.now file request (text_of result out.new) core.now }
+{
+    let answer = core.look(&Query::Dirty { file, request });
+    out.tell_report(request, &answer);
+    None
 }
 
 // The line for the question for usable ranges.

@@ -1,13 +1,15 @@
 -- The record of an event that is refused, and of one that is carried out, with the frames of tables that it moves or
 -- doesn't.
-use Rattle.std.proofs.Common.{◌≡◌, ℕ, false, Option, Some, None, Result, Ok, Err, List, refl, sym, subst, []}
+use Rattle.std.proofs.Common.{◌≡◌, ℕ, true, false, not, Option, Some, None, Result, Ok, Err, List, refl, sym, subst, []}
+use Rattle.std.specs.List.{list_all}
 use Rattle.std.specs.Prelude.{IsTrue}
 use Rattle.std.specs.Result.{IfOk, OnErr}
 use Rattle.iofd_words.specs.After.{changed}
 use Rattle.iofd_words.specs.Answers.{Answers}
 use Rattle.iofd_words.specs.Checks.{refusal}
 use Rattle.iofd_words.specs.Run.{IsAnswer, Lawful, MovesFrames, after, after_answer}
-use Rattle.iofd_words.specs.Tables.{MovesTables, may_go, with_tables}
+use Rattle.iofd_words.specs.Tables.{MovesTables, is_orphan, may_go, with_tables}
+use Rattle.iofd_words.specs.View.{View, view}
 use Rattle.iofd_words.specs.World.{World}
 use Rattle.iofd_words.specs.declared.event.Event.{Event}
 use Rattle.iofd_words.specs.declared.numbers.FrameNo.{FrameNo}
@@ -20,7 +22,8 @@ use Rattle.iofd_words.specs.declared.reply.Reply.TheVariants as reply
 use Rattle.iofd_runs.proofs.StillTabled.{MakesNone, TakesNone}
 use Rattle.server_state.proofs.Still.{chosen_moves}
 use Rattle.server_state.specs.Choice.{IsChosen}
-use Rattle.server_state.specs.Held.{objects_in}
+use Rattle.server_state.proofs.ViewShown.{same_view}
+use Rattle.server_state.specs.Seen.{seen}
 use Rattle.server_state.specs.Shows.{Shows}
 use Rattle.server_state.specs.Step.{ChosenSteps, IsGranted, IsGrantedAt, IsGrantedFor, IsGrantedVia, IsKnown}
 use Rattle.server_state.specs.Step.{MovingSteps, Steps, recorded}
@@ -92,13 +95,12 @@ module _ {A : Type 0} (at : ℕ) (e f : Event A) (via : Option FrameNo) (s : Sta
       record { at = at; world = granted.granted.world; tidy = granted.granted.tidy; shows = granted.granted.shows }
 
 pub takes_as : {A : Type 0} (s : State A) (e f : Event A) → e ≡ f
-    → IsTrue (takes_memory (objects_in s.objects) s.attachments.items f)
-    → IsTrue (takes_memory (objects_in s.objects) s.attachments.items e)
-takes_as s e f same takes =
-    subst (λ (x : Event _). IsTrue (takes_memory (objects_in s.objects) s.attachments.items x)) (sym same) takes
+    → IsTrue (takes_memory (seen s) f) → IsTrue (takes_memory (seen s) e)
+takes_as s e f same takes = subst (λ (x : Event _). IsTrue (takes_memory (seen s) x)) (sym same) takes
 
 -- of a world that is shown
-pub takes_in : {A : Type 0} (w : World) (s : State A) → Shows w s → (e : Event A)
-    → IsTrue (takes_memory (objects_in s.objects) s.attachments.items e)
-    → IsTrue (takes_memory w.objects w.attachments e)
-takes_in w s shows e takes = rw (shows.objects.rows, shows.devices.attached) takes
+pub takes_in : {A : Type 0} (w : World) (s : State A) → Shows w s
+    → list_all (λ table. not (is_orphan w.objects table)) w.table_frames ≡ true → (e : Event A)
+    → IsTrue (takes_memory (seen s) e) → IsTrue (takes_memory (view w) e)
+takes_in w s shows owned e takes =
+    subst (λ (v : View). IsTrue (takes_memory v e)) (same_view w s shows owned) takes

@@ -3,7 +3,6 @@
 ghost use Rattle.std.specs.Prelude.{◌≡◌, None, [], IfOk, IsTrue, OnErr};
 ghost use Rattle.iofd_words.specs.Checks.{checks};
 ghost use Rattle.iofd_words.specs.FirstTrue.{first_true};
-ghost use Rattle.server_state.specs.Held.{objects_in};
 ghost use Rattle.server_state.specs.Seen.{seen};
 ghost use Rattle.iommufd_core.specs.Server.{takes_memory};
 ghost use Rattle.server_state.specs.Step.{Answered, IsCalled, IsGrantedFor, IsKnown, MovingSteps, TidyShowsSame};
@@ -14,6 +13,7 @@ use access_pins::{
 };
 use event_destroy::{close, destroy};
 use event_device_access::device_write;
+use event_dirty::{dirty_enable, dirty_report};
 use event_ioas::{allow_iovas, ioas_alloc};
 use event_map::{copy, map};
 use event_unmap::unmap;
@@ -44,7 +44,7 @@ pub(crate) fn answer<A: Allocator + Copy>(
         Answered at act.now.event act.now.via state.old reply taken.new.items given.new.items state.new) }
     ensures err { OnErr result (TidyShowsSame at state.old state.new) }
     ensures memory { OnErr result ((first_true (checks (seen state.old) act.now.event) ≡ None)
-        × IsTrue (takes_memory (objects_in state.old.objects) state.old.attachments.items act.now.event)) }
+        × IsTrue (takes_memory (seen state.old) act.now.event)) }
 {
     match refusal(state, &act.event) {
         Some(cause) => Ok(Reply::Refused(Refusal { cause })),
@@ -87,6 +87,8 @@ fn refusal<A: Allocator + Copy>(state: &State<A>, event: &Event<A>) -> Option<Ca
         Event::AccessWrite(file, id, iova, bytes) => {
             access_write::refusal(state, *file, *id, *iova, bytes)
         }
+        Event::DirtyEnable(file, hwpt, _) => dirty_enable::refusal(state, *file, *hwpt),
+        Event::DirtyClear(file, request) => dirty_report::refusal(state, *file, *request),
     }
 }
 
@@ -105,8 +107,7 @@ fn commit<A: Allocator + Copy>(
     ensures ok { IfOk result (λ reply.
         MovingSteps at act.now.event act.now.via state.old reply taken.new.items given.new.items state.new) }
     ensures err { OnErr result (TidyShowsSame at state.old state.new) }
-    ensures memory { OnErr result (IsTrue
-        (takes_memory (objects_in state.old.objects) state.old.attachments.items act.now.event)) }
+    ensures memory { OnErr result (IsTrue (takes_memory (seen state.old) act.now.event)) }
 {
     match &act.event {
         Event::IoasAlloc(file) => ioas_alloc::commit(state, *file),
@@ -128,7 +129,7 @@ fn commit<A: Allocator + Copy>(
         Event::Detach(device) => detach::commit(state, *device, given),
         Event::Flush(device) => Ok(flush::commit(state, *device)),
         Event::DeviceWrite(device, iova, bytes) => {
-            Ok(device_write::commit(state, *device, *iova, bytes, act.via))
+            device_write::commit(state, *device, *iova, bytes, act.via)
         }
         Event::AccessCreate(file) => create::commit(state, *file),
         Event::AccessAttach(file, id, ioas) => {
@@ -142,5 +143,7 @@ fn commit<A: Allocator + Copy>(
         Event::AccessWrite(file, id, iova, bytes) => {
             Ok(access_write::commit(state, *file, *id, *iova, bytes))
         }
+        Event::DirtyEnable(file, hwpt, on) => dirty_enable::commit(state, *file, *hwpt, *on),
+        Event::DirtyClear(file, request) => Ok(dirty_report::commit(state, *file, *request)),
     }
 }

@@ -19,6 +19,7 @@ ghost use Rattle.server_state.specs.Step.{IsAsked, IsKnown, IsTidy};
 use crate::turn_counts;
 use access_pins::read as access_read;
 use event_device_access::{access, device_read, walk};
+use event_dirty::dirty_report;
 use event_user_memory::{user_access, user_read};
 use iofd_words::{Answer, Cause, DeviceNo, ObjId, Query, Refusal, UserNo};
 use server_state::State;
@@ -65,6 +66,7 @@ fn refusal<A: Allocator>(state: &State<A>, query: &Query) -> Option<Cause>
         Query::AttachedTo(device) | Query::Turns(device) | Query::WalkFor { device, .. } => {
             refusal_by_device(state, *device)
         }
+        Query::Dirty { file, request } => dirty_report::refusal(state, *file, *request),
     }
 }
 
@@ -97,6 +99,7 @@ fn answer<A: Allocator>(state: &State<A>, turns: &[u64], query: &Query) -> Answe
             len,
             frame,
         } => device_read::cached(state, *device, *iova, *len, *frame),
+        Query::Dirty { file, request } => dirty_report::report(state, *file, *request),
     }
 }
 

@@ -4,6 +4,7 @@ ghost use Rattle.std.specs.Prelude.{◌≡◌, IfOk};
 ghost use Rattle.iofd_words.specs.World.{opening};
 ghost use Rattle.server_state.specs.Shows.{Shows};
 
+use dirty_bitmap::DirtyTables;
 use frame_memory::Pool;
 use held_pins::HeldPins;
 use iofd_words::{Config, NoMemory};
@@ -36,5 +37,6 @@ pub(crate) fn opened<A: Allocator + Copy, B: Allocator>(
         page_tables: PageTables::new(alloc),
         attachments: Vec::new(alloc),
         access_pins: HeldPins::new(alloc),
+        dirty: DirtyTables::new(alloc),
     })
 }

@@ -11,11 +11,12 @@ use Rattle.iofd_words.specs.declared.numbers.FrameNo.{FrameNo}
 use Rattle.iofd_words.specs.declared.record.Record.{Record}
 use Rattle.journal_audit_bytes.specs.Format.{Raw, Spells, Tagged}
 use Rattle.journal_audit_bytes.specs.Journal.{SpellsRecord, raw_record}
-use Rattle.journal_audit_bytes.specs.Reading.{of_frames, pairs, purpose_number, record_at, singles, tagged_event}
-use Rattle.journal_audit_bytes.specs.Reading.{tagged_reply}
+use Rattle.journal_audit_bytes.specs.Reading.{of_frames, pairs, purpose_number, record_at, singles, switch_number}
+use Rattle.journal_audit_bytes.specs.Reading.{tagged_event, tagged_reply}
 use Rattle.journal_audit_bytes.specs.Replies.{reply_of}
 use Rattle.journal_audit_bytes.specs.declared.spelled.SpelledReply.{SpelledReply}
 use Rattle.journal_audit_bytes.specs.declared.spelled.SpelledReply.TheVariants as spelled
+use Rattle.journal_audit_bytes.specs.declared.version.Version.{Version}
 use Rattle.journal_audit_bytes.proofs.Fields.{some_is}
 use Rattle.journal_audit_bytes.proofs.Records.{record_again}
 
@@ -101,14 +102,26 @@ event_of t =
       iova = record { 0 = at t 2 };
       length = at t 3;
     }))
+    (cond (eqb t.tag 0x89)
     (event.HwptAlloc (record { 0 = at t 0 }) (record {
       device = record { 0 = at t 1 };
       ioas = record { 0 = at t 2 };
-    })))))))))))))))))))))))
+    }))
+    (cond (eqb t.tag 0xf0)
+    (event.DirtyEnable (record { 0 = at t 0 }) (record { 0 = at t 1 }) (eqb (at t 2) 1))
+    (event.DirtyClear (record { 0 = at t 0 }) (record {
+      hwpt = record { 0 = at t 1 };
+      iova = record { 0 = at t 2 };
+      length = at t 3;
+    })))))))))))))))))))))))))
 
 is_purpose : (write : Bool) → eqb (purpose_number write) 1 ≡ write
 is_purpose true = refl
 is_purpose false = refl
+
+is_switch : (on : Bool) → eqb (switch_number on) 1 ≡ on
+is_switch true = refl
+is_switch false = refl
 
 pin_again : (request : PinRequest) (write : Bool) → request.write ≡ write
     → (let p : PinRequest = record {
@@ -150,6 +163,9 @@ event_again (event.Copy file request) = refl
 event_again (event.Map file request) = refl
 event_again (event.Unmap file request) = refl
 event_again (event.HwptAlloc file request) = refl
+event_again (event.DirtyEnable file hwpt on) =
+    ap (λ (b : Bool). event.DirtyEnable file hwpt b) (is_switch on)
+event_again (event.DirtyClear file request) = refl
 
 -- ---- replies
 
@@ -162,7 +178,8 @@ reply_at t =
     (cond (eqb t.tag 0x04) (spelled.Pending (at t 0))
     (cond (eqb t.tag 0x05) (spelled.Frame (at t 0))
     (cond (eqb t.tag 0x06) (spelled.Passed (at t 0))
-    (cond (eqb t.tag 0x07) (spelled.Fault (at t 0)) (spelled.Refused (at t 0)))))))))
+    (cond (eqb t.tag 0x07) (spelled.Fault (at t 0))
+    (cond (eqb t.tag 0x08) (spelled.Refused (at t 0)) (spelled.Dirty t.numbers)))))))))
 
 pub reply_again : (reply : SpelledReply) → reply_at (tagged_reply reply) ≡ reply
 reply_again spelled.Done = refl
@@ -174,15 +191,17 @@ reply_again (spelled.Frame frame) = refl
 reply_again (spelled.Passed frame) = refl
 reply_again (spelled.Fault reason) = refl
 reply_again (spelled.Refused number) = refl
+reply_again (spelled.Dirty words) = refl
 
 -- ---- records
 
 -- the bytes tell what they spell
-pub text_tells : (passes : ℕ) (a b : Raw) (text other rest behind : List ℕ) → Spells passes a text
-    → Spells passes b other → text ++ rest ≡ other ++ behind → (a ≡ b) × (rest ≡ behind)
-text_tells passes a b text other rest behind p q same =
-    let read = some_is (a, rest) (b, behind) (sym (record_again passes a text rest p)
-    ∙ ap (record_at passes) same ∙ record_again passes b other behind q) in
+pub text_tells : (version : Version) (passes : ℕ) (a b : Raw) (text other rest behind : List ℕ)
+    → Spells version passes a text
+    → Spells version passes b other → text ++ rest ≡ other ++ behind → (a ≡ b) × (rest ≡ behind)
+text_tells version passes a b text other rest behind p q same =
+    let read = some_is (a, rest) (b, behind) (sym (record_again version passes a text rest p)
+    ∙ ap (record_at version passes) same ∙ record_again version passes b other behind q) in
     (ap (λ (x : Raw × List ℕ). x.0) read, ap (λ (x : Raw × List ℕ). x.1) read)
 
 module _ {A : Type 0} where
@@ -208,20 +227,23 @@ module _ {A : Type 0} where
           ∙ ap (λ a. record q { pass = r.pass; event = r.event; reply = a }) a
           ∙ ap (λ t. record r { taken = t; given = q.given }) t ∙ ap (λ g. record r { given = g }) g
 
-  pub one_record : (s : Settings) (q r : Record A) (text other rest behind : List ℕ) → SpellsRecord s q text
-      → SpellsRecord s r other → text ++ rest ≡ other ++ behind → (q ≡ r) × (rest ≡ behind)
-  one_record s q r text other rest behind p o same =
-      let told = text_tells s.passes (raw_record q p.reply) (raw_record r o.reply) text other rest behind p.spells
+  pub one_record : (version : Version) (s : Settings) (q r : Record A) (text other rest behind : List ℕ)
+      → SpellsRecord version s q text
+      → SpellsRecord version s r other → text ++ rest ≡ other ++ behind → (q ≡ r) × (rest ≡ behind)
+  one_record version s q r text other rest behind p o same =
+      let told =
+      text_tells version s.passes (raw_record q p.reply) (raw_record r o.reply) text other rest behind p.spells
       o.spells same in
       (same_raw s q r p.reply o.reply told.0 p.gives o.gives, told.1)
 
   -- a record that other bytes at the same place spell is spelled by these
-  pub spelled_here : (s : Settings) (raw : Raw) (r : Record A) (text other rest behind : List ℕ)
-      → Spells s.passes raw text → SpellsRecord s r other → text ++ rest ≡ other ++ behind → SpellsRecord s r text
-  spelled_here s raw r text other rest behind p o same =
-      let told = text_tells s.passes raw (raw_record r o.reply) text other rest behind p o.spells same in
+  pub spelled_here : (version : Version) (s : Settings) (raw : Raw) (r : Record A) (text other rest behind : List ℕ)
+      → Spells version s.passes raw text → SpellsRecord version s r other → text ++ rest ≡ other ++ behind
+      → SpellsRecord version s r text
+  spelled_here version s raw r text other rest behind p o same =
+      let told = text_tells version s.passes raw (raw_record r o.reply) text other rest behind p o.spells same in
       record {
         reply = o.reply;
         gives = o.gives;
-        spells = subst (λ (x : Raw). Spells s.passes x text) told.0 p;
+        spells = subst (λ (x : Raw). Spells version s.passes x text) told.0 p;
       }

@@ -17,6 +17,7 @@ use Rattle.journal_audit_bytes.specs.declared.spelled.ReadError.{ReadError}
 use Rattle.journal_audit_bytes.specs.declared.spelled.ReadError.TheVariants.{Memory, Torn}
 use Rattle.journal_audit_bytes.specs.declared.spelled.SpelledRecord.{SpelledRecord}
 use Rattle.journal_audit_bytes.specs.declared.spelled.SpelledReply.{SpelledReply}
+use Rattle.journal_audit_bytes.specs.declared.version.Version.{Version}
 use Rattle.journal_audit_world.specs.Decides.{Decides}
 use Rattle.journal_audit_world.specs.Unwritten.{unwritten}
 use Rattle.journal_audit.proofs.Again.{event_again, event_of, reply_again, reply_at, same_raw, text_tells}
@@ -59,41 +60,43 @@ module _ {A : Type 0} where
   if_judged at old new raw r (Err e) tells is left = tt
 
   -- at the front of bytes
-  pub follows : (at : ℕ) (old new : World) (bytes rest : List ℕ) (raw : Raw) (text : List ℕ)
-      → Spells old.settings.passes raw text → bytes ≡ text ++ rest → IsJudged A at old new raw true
-      → IsNext A at old new bytes rest next.Follows
-  follows at old new bytes rest raw text spells is (r, tells, lawful, left) = (
+  pub follows : (version : Version) (at : ℕ) (old new : World) (bytes rest : List ℕ) (raw : Raw) (text : List ℕ)
+      → Spells version old.settings.passes raw text → bytes ≡ text ++ rest → IsJudged A at old new raw true
+      → IsNext A version at old new bytes rest next.Follows
+  follows version at old new bytes rest raw text spells is (r, tells, lawful, left) = (
     r,
     text,
     record {
       reply = tells.reply;
       gives = tells.gives;
-      spells = subst (λ (x : Raw). Spells old.settings.passes x text) tells.is spells;
+      spells = subst (λ (x : Raw). Spells version old.settings.passes x text) tells.is spells;
     },
     is,
     lawful,
     left,
   )
 
-  pub none_follows : (at : ℕ) (old new : World) (bytes rest : List ℕ) (raw : Raw) (text : List ℕ)
-      → Spells old.settings.passes raw text → bytes ≡ text ++ rest → IsJudged A at old new raw false
-      → IsNext A at old new bytes rest next.Not
-  none_follows at old new bytes rest raw text spells is none =
+  pub none_follows : (version : Version) (at : ℕ) (old new : World) (bytes rest : List ℕ) (raw : Raw) (text : List ℕ)
+      → Spells version old.settings.passes raw text → bytes ≡ text ++ rest → IsJudged A at old new raw false
+      → IsNext A version at old new bytes rest next.Not
+  none_follows version at old new bytes rest raw text spells is none =
       (raw, text, spells, is, λ r spelled lawful. none r (told r spelled) lawful)
     where
-      told : (r : Record A) → SpellsRecord old.settings r text → Tells old.settings raw r
+      told : (r : Record A) → SpellsRecord version old.settings r text → Tells old.settings raw r
       told r spelled =
-          let same = text_tells old.settings.passes raw (raw_record r spelled.reply) text text rest rest spells
+          let same = text_tells version old.settings.passes raw (raw_record r spelled.reply) text text rest rest spells
           spelled.spells refl in
           let tells : Tells old.settings raw r = record { reply = spelled.reply; gives = spelled.gives; is = same.0 } in
           tells
 
-pub told_next : (A : Type 0) (at : ℕ) (old new : World) (bytes rest : List ℕ) (raw : Raw) (text : List ℕ) (lawful : Bool)
-    → Spells old.settings.passes raw text → bytes ≡ text ++ rest → IsJudged A at old new raw lawful
-    → IsNext A at old new bytes rest (next_of lawful)
-told_next A at old new bytes rest raw text true spells is judged = follows {A = A} at old new bytes rest raw text spells is judged
-told_next A at old new bytes rest raw text false spells is judged =
-    none_follows {A = A} at old new bytes rest raw text spells is judged
+pub told_next : (A : Type 0) (version : Version) (at : ℕ) (old new : World) (bytes rest : List ℕ) (raw : Raw)
+    (text : List ℕ) (lawful : Bool)
+    → Spells version old.settings.passes raw text → bytes ≡ text ++ rest → IsJudged A at old new raw lawful
+    → IsNext A version at old new bytes rest (next_of lawful)
+told_next A version at old new bytes rest raw text true spells is judged =
+    follows {A = A} version at old new bytes rest raw text spells is judged
+told_next A version at old new bytes rest raw text false spells is judged =
+    none_follows {A = A} version at old new bytes rest raw text spells is judged
 
 -- where bytes are torn nothing is read of them
 pub none_read : {Y : Type 0} (e : ReadError) (y : Y) → e ≡ Torn → Fails e (Some y) → ⊥

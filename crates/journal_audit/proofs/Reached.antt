@@ -25,9 +25,9 @@ use Rattle.journal_audit_world.proofs.Alike.{after_alike, kept_alike, lawful_ali
 use Rattle.journal_audit_world.proofs.KeptRun.{kept_run}
 use Rattle.journal_audit.proofs.Verdicts.{grouped, some_text}
 
-some_bytes : (passes : ℕ) (r : Raw) (text : List ℕ) → Spells passes r text → 0 < length text
-some_bytes passes r [] spells = absurd (some_text passes r [] [] spells refl)
-some_bytes passes r (byte ∷ bytes) spells = omega arith
+some_bytes : (version : Version) (passes : ℕ) (r : Raw) (text : List ℕ) → Spells version passes r text → 0 < length text
+some_bytes version passes r [] spells = absurd (some_text version passes r [] [] spells refl)
+some_bytes version passes r (byte ∷ bytes) spells = omega arith
 
 no_head : (x : Version × Settings × List ℕ) → head_at [] ≡ Some x → ⊥
 unfolding head_at version_at
@@ -38,23 +38,22 @@ some_head version s [] head = absurd (no_head (version, s, []) (head_again versi
 some_head version s (byte ∷ bytes) head = omega arith
 
 -- a run stands before the rest, of so many records, and has left this world
-pub record IsReached (A : Type 0) (bytes : List ℕ) (s : Settings) (rest : List ℕ) (world : World) (index : ℕ) : Type 0 where
-  pub version : Version
+pub record IsReached (A : Type 0) (version : Version) (bytes : List ℕ) (s : Settings) (rest : List ℕ) (world : World)
+    (index : ℕ) : Type 0 where
   pub records : List (Record A)
   pub begin : BeginWithRun bytes version s records rest
   pub count : index ≡ length records
   pub left : unwritten world ≡ unwritten (world_of s records)
   pub few : index + length rest ≤ length bytes
 
-module _ {A : Type 0} where
+module _ {A : Type 0} (version : Version) where
   -- ---- the start
 
-  pub started : (bytes : List ℕ) (version : Version) (s : Settings) (rest : List ℕ) (world : World) (text : List ℕ)
-      → SpellsHead version s text → bytes ≡ text ++ rest → world ≡ opening s → IsReached A bytes s rest world 0
+  pub started : (bytes : List ℕ) (s : Settings) (rest : List ℕ) (world : World) (text : List ℕ)
+      → SpellsHead version s text → bytes ≡ text ++ rest → world ≡ opening s → IsReached A version bytes s rest world 0
   unfolding IsRun world_of
-  started bytes version s rest world text head is opens =
+  started bytes s rest world text head is opens =
       record {
-        version = version;
         records = [];
         begin = record {
           front = text;
@@ -82,20 +81,21 @@ module _ {A : Type 0} where
       run_keeps (λ w. w.settings ≡ s) (tabled_settings s) (keeps_settings s) 0 (opening s) records run refl
 
   pub has_settings : (bytes : List ℕ) (s : Settings) (rest : List ℕ) (world : World) (index : ℕ)
-      → IsReached A bytes s rest world index → world.settings ≡ s
+      → IsReached A version bytes s rest world index → world.settings ≡ s
   has_settings bytes s rest world index r =
       ap (λ (w : World). w.settings) r.left ∙ same_settings s r.records r.begin.run
 
   pub is_kept : (bytes : List ℕ) (s : Settings) (rest : List ℕ) (world : World) (index : ℕ)
-      → IsReached A bytes s rest world index → IsKept index world
+      → IsReached A version bytes s rest world index → IsKept index world
   is_kept bytes s rest world index r =
       subst (λ (n : ℕ). IsKept n world) (sym r.count)
       (kept_alike (length r.records) (world_of s r.records) world (sym r.left) (kept_run s r.records r.begin.run))
 
   -- ---- a lawful record more
 
-  pushed : (s : Settings) (records : List (Record A)) (r : Record A) (text front : List ℕ) → SpellRecords s records text
-      → SpellsRecord s r front → SpellRecords s (records ++ r ∷ []) (text ++ front)
+  pushed : (s : Settings) (records : List (Record A)) (r : Record A) (text front : List ℕ)
+      → SpellRecords version s records text
+      → SpellsRecord version s r front → SpellRecords version s (records ++ r ∷ []) (text ++ front)
   pushed s [] r text front h is =
       (front, [], is, refl, ap (λ (t : List ℕ). t ++ front) h ∙ sym (append-nil front))
   pushed s (x ∷ records) r text front h is = (
@@ -107,28 +107,29 @@ module _ {A : Type 0} where
   )
 
   lawful_there : (bytes : List ℕ) (s : Settings) (rest : List ℕ) (world : World) (index : ℕ) (r : Record A)
-      → (reached : IsReached A bytes s rest world index) → Lawful index world r
+      → (reached : IsReached A version bytes s rest world index) → Lawful index world r
       → Lawful (length reached.records) (world_of s reached.records) r
   lawful_there bytes s rest world index r reached lawful =
       lawful_alike (length reached.records) world (world_of s reached.records) r reached.left
       (subst (λ (n : ℕ). Lawful n world r) reached.count lawful)
 
   lawful_here : (bytes : List ℕ) (s : Settings) (rest : List ℕ) (world : World) (index : ℕ) (r : Record A)
-      → (reached : IsReached A bytes s rest world index)
+      → (reached : IsReached A version bytes s rest world index)
       → Lawful (length reached.records) (world_of s reached.records) r → Lawful index world r
   lawful_here bytes s rest world index r reached lawful =
       subst (λ (n : ℕ). Lawful n world r) (sym reached.count)
       (lawful_alike (length reached.records) (world_of s reached.records) world r (sym reached.left) lawful)
 
   with_settings : (bytes : List ℕ) (s : Settings) (rest : List ℕ) (world : World) (index : ℕ) (r : Record A)
-      (text : List ℕ) → IsReached A bytes s rest world index → SpellsRecord world.settings r text → SpellsRecord s r text
+      (text : List ℕ) → IsReached A version bytes s rest world index → SpellsRecord version world.settings r text
+      → SpellsRecord version s r text
   with_settings bytes s rest world index r text reached =
-      subst (λ (x : Settings). SpellsRecord x r text) (has_settings bytes s rest world index reached)
+      subst (λ (x : Settings). SpellsRecord version x r text) (has_settings bytes s rest world index reached)
 
-  begun_more : {v : Version} (bytes : List ℕ) (s : Settings) (records : List (Record A)) (rest behind : List ℕ)
-      (r : Record A) (text : List ℕ) → BeginWithRun bytes v s records rest → SpellsRecord s r text
+  begun_more : (bytes : List ℕ) (s : Settings) (records : List (Record A)) (rest behind : List ℕ)
+      (r : Record A) (text : List ℕ) → BeginWithRun bytes version s records rest → SpellsRecord version s r text
       → rest ≡ text ++ behind → Lawful (length records) (world_of s records) r
-      → BeginWithRun bytes v s (records ++ r ∷ []) behind
+      → BeginWithRun bytes version s (records ++ r ∷ []) behind
   begun_more bytes s records rest behind r text b spells is lawful =
       record {
         front = b.front ++ text;
@@ -145,17 +146,16 @@ module _ {A : Type 0} where
       }
 
   pub goes_on : (bytes : List ℕ) (s : Settings) (rest behind : List ℕ) (world new : World) (index : ℕ)
-      → IsReached A bytes s rest world index → IsNext A index world new rest behind next.Follows
-      → IsReached A bytes s behind new (index + 1)
+      → IsReached A version bytes s rest world index → IsNext A version index world new rest behind next.Follows
+      → IsReached A version bytes s behind new (index + 1)
   goes_on bytes s rest behind world new index reached (r, text, spells, is, lawful, left) =
       let here = with_settings bytes s rest world index r text reached spells in
       let there = lawful_there bytes s rest world index r reached lawful in
       let long : length rest ≡ length text + length behind = ap length is ∙ length-append text behind in
-      let some = some_bytes s.passes (raw_record r here.reply) text here.spells in
+      let some = some_bytes version s.passes (raw_record r here.reply) text here.spells in
       let few : index + length rest ≤ length bytes = reached.few in
       let count : index ≡ length reached.records = reached.count in
       record {
-        version = reached.version;
         records = reached.records ++ r ∷ [];
         begin = begun_more bytes s reached.records rest behind r text reached.begin here is there;
         count = let more = length-append reached.records (r ∷ []) in omega (arith, more, count);
@@ -168,21 +168,21 @@ module _ {A : Type 0} where
   -- ---- the end
 
   pub all_run : (bytes : List ℕ) (s : Settings) (rest : List ℕ) (world : World) (index : ℕ) → rest ≡ []
-      → IsReached A bytes s rest world index → IsVerdict A bytes (Run index)
+      → IsReached A version bytes s rest world index → IsVerdict A bytes (Run index)
   all_run bytes s rest world index ends reached = (
-    reached.version,
+    version,
     s,
     reached.records,
-    subst (λ (x : List ℕ). BeginWithRun bytes reached.version s reached.records x) ends reached.begin,
+    subst (λ (x : List ℕ). BeginWithRun bytes version s reached.records x) ends reached.begin,
     reached.count,
   )
 
   pub none_goes_on : (bytes : List ℕ) (s : Settings) (rest behind : List ℕ) (world new : World) (index : ℕ)
-      → IsReached A bytes s rest world index → IsNext A index world new rest behind next.Not
+      → IsReached A version bytes s rest world index → IsNext A version index world new rest behind next.Not
       → IsVerdict A bytes (NotRun index)
   none_goes_on bytes s rest behind world new index reached (raw, text, spells, is, none) =
       let same = has_settings bytes s rest world index reached in (
-        reached.version,
+        version,
         s,
         reached.records,
         rest,
@@ -191,39 +191,40 @@ module _ {A : Type 0} where
           raw = raw;
           text = text;
           behind = behind;
-          spells = subst (λ (x : Settings). Spells x.passes raw text) same spells;
+          spells = subst (λ (x : Settings). Spells version x.passes raw text) same spells;
           rest_is = is;
           none = λ r spelled lawful.
-              none r (subst (λ (x : Settings). SpellsRecord x r text) (sym same) spelled)
+              none r (subst (λ (x : Settings). SpellsRecord version x r text) (sym same) spelled)
               (lawful_here bytes s rest world index r reached lawful);
         },
         reached.count,
       )
 
   pub is_torn : (bytes : List ℕ) (s : Settings) (rest behind : List ℕ) (world new : World) (index : ℕ)
-      → rest ≢ [] → IsReached A bytes s rest world index → IsNext A index world new rest behind next.Torn
+      → rest ≢ [] → IsReached A version bytes s rest world index
+      → IsNext A version index world new rest behind next.Torn
       → IsVerdict A bytes (Torn (length bytes - length rest))
   is_torn bytes s rest behind world new index more reached torn =
       at_offset (length bytes - length rest) (head_long reached.begin) refl
     where
       -- there is something before it
-      head_long : BeginWithRun bytes reached.version s reached.records rest → 0 < length bytes - length rest
+      head_long : BeginWithRun bytes version s reached.records rest → 0 < length bytes - length rest
       head_long b =
           let long : length bytes ≡ length b.front + length rest = ap length b.bytes_are ∙ length-append b.front rest in
           let front : length b.front ≡ length b.journal.head + length b.journal.records =
           ap length b.journal.bytes_are ∙ length-append b.journal.head b.journal.records in
-          let some = some_head reached.version s b.journal.head b.journal.head_is in
+          let some = some_head version s b.journal.head b.journal.head_is in
           omega (arith, long, front, some)
 
       at_offset : (offset : ℕ) → 0 < offset → offset ≡ length bytes - length rest → IsVerdict A bytes (Torn offset)
       at_offset zero some is = absurd (omega (arith, some))
       at_offset (suc n) some is = (
-        reached.version,
+        version,
         s,
         reached.records,
         rest,
         reached.begin,
-        subst (λ (x : Settings). BeginNoRecord x.passes rest) (has_settings bytes s rest world index reached)
+        subst (λ (x : Settings). BeginNoRecord version x.passes rest) (has_settings bytes s rest world index reached)
             torn.0,
         more,
         (let few : index + length rest ≤ length bytes = reached.few in omega (arith, is, few)),

@@ -11,6 +11,7 @@ use Rattle.journal_audit_bytes.specs.Format.{Raw, Spells}
 use Rattle.journal_audit_bytes.specs.Journal.{SpellsRecord, raw_record}
 use Rattle.journal_audit_bytes.specs.Replies.{reply_of}
 use Rattle.journal_audit_bytes.specs.declared.spelled.SpelledReply.{SpelledReply}
+use Rattle.journal_audit_bytes.specs.declared.version.Version.{Version}
 use Rattle.journal_audit_world.specs.Unwritten.{unwritten}
 
 module _ {A : Type 0} where
@@ -30,13 +31,13 @@ abbrev pub next_of : Bool → Next
 next_of true = next.Follows
 next_of false = next.Not
 
--- the bytes begin with a lawful record, and the world becomes the one after it; or with a record that is none; or
--- with no record, and all of them are left
-abbrev pub IsNext : Type 0 → ℕ → World → World → List ℕ → List ℕ → Next → Type 0
-IsNext A at old new bytes rest next.Follows =
-    (r : Record A) × (text : List ℕ) × SpellsRecord old.settings r text × (bytes ≡ text ++ rest) × Lawful at old r
-    × (unwritten new ≡ unwritten (after at old r))
-IsNext A at old new bytes rest next.Not =
-    (raw : Raw) × (text : List ℕ) × Spells old.settings.passes raw text × (bytes ≡ text ++ rest)
-    × ((r : Record A) → SpellsRecord old.settings r text → Lawful at old r → ⊥)
-IsNext A at old new bytes rest next.Torn = BeginNoRecord old.settings.passes bytes × (rest ≡ bytes)
+-- the bytes, of a journal of this version, begin with a lawful record, and the world becomes the one after it; or with
+-- a record that is none; or with no record, and all of them are left
+abbrev pub IsNext : Type 0 → Version → ℕ → World → World → List ℕ → List ℕ → Next → Type 0
+IsNext A version at old new bytes rest next.Follows =
+    (r : Record A) × (text : List ℕ) × SpellsRecord version old.settings r text × (bytes ≡ text ++ rest)
+    × Lawful at old r × (unwritten new ≡ unwritten (after at old r))
+IsNext A version at old new bytes rest next.Not =
+    (raw : Raw) × (text : List ℕ) × Spells version old.settings.passes raw text × (bytes ≡ text ++ rest)
+    × ((r : Record A) → SpellsRecord version old.settings r text → Lawful at old r → ⊥)
+IsNext A version at old new bytes rest next.Torn = BeginNoRecord version old.settings.passes bytes × (rest ≡ bytes)

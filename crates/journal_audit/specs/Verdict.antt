@@ -15,9 +15,10 @@ abbrev pub BeginNoHead : List ℕ → Type 0
 BeginNoHead bytes =
     (version : Version) (s : Settings) (text rest : List ℕ) → SpellsHead version s text → bytes ≡ text ++ rest → ⊥
 
--- they begin with no record, where there are so many passes
-abbrev pub BeginNoRecord : ℕ → List ℕ → Type 0
-BeginNoRecord passes bytes = (r : Raw) (text rest : List ℕ) → Spells passes r text → bytes ≡ text ++ rest → ⊥
+-- they begin with no record of this version, where there are so many passes
+abbrev pub BeginNoRecord : Version → ℕ → List ℕ → Type 0
+BeginNoRecord version passes bytes =
+    (r : Raw) (text rest : List ℕ) → Spells version passes r text → bytes ≡ text ++ rest → ⊥
 
 module _ {A : Type 0} where
   -- the bytes are the journal of this version of these records, which are a run, and behind it the rest
@@ -29,13 +30,13 @@ module _ {A : Type 0} where
     pub bytes_are : bytes ≡ front ++ rest
 
   -- the rest begins with a record, and whatever is told by its bytes isn't lawful after the run
-  pub record NoneFollows (s : Settings) (records : List (Record A)) (rest : List ℕ) : Type 0 where
+  pub record NoneFollows (version : Version) (s : Settings) (records : List (Record A)) (rest : List ℕ) : Type 0 where
     pub raw : Raw
     pub text : List ℕ
     pub behind : List ℕ
-    pub spells : Spells s.passes raw text
+    pub spells : Spells version s.passes raw text
     pub rest_is : rest ≡ text ++ behind
-    pub none : (r : Record A) → SpellsRecord s r text → Lawful (length records) (world_of s records) r → ⊥
+    pub none : (r : Record A) → SpellsRecord version s r text → Lawful (length records) (world_of s records) r → ⊥
 
 -- a journal, of either version, of so many records, which are a run; or the records in front of the one at this index,
 -- counted from 0, are a run with which that one doesn't go on; or the bytes begin with no head, at 0, or behind a head
@@ -46,9 +47,9 @@ IsVerdict A bytes (Run count) =
     × (count ≡ length records)
 IsVerdict A bytes (NotRun index) =
     (version : Version) × (s : Settings) × (records : List (Record A)) × (rest : List ℕ)
-    × BeginWithRun bytes version s records rest × NoneFollows s records rest × (index ≡ length records)
+    × BeginWithRun bytes version s records rest × NoneFollows version s records rest × (index ≡ length records)
 IsVerdict A bytes (Torn zero) = BeginNoHead bytes
 IsVerdict A bytes (Torn (suc offset)) =
     (version : Version) × (s : Settings) × (records : List (Record A)) × (rest : List ℕ)
-    × BeginWithRun bytes version s records rest × BeginNoRecord s.passes rest × (rest ≢ [])
+    × BeginWithRun bytes version s records rest × BeginNoRecord version s.passes rest × (rest ≢ [])
     × (length bytes ≡ suc offset + length rest)

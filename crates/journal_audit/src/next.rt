@@ -7,7 +7,7 @@ ghost use Rattle.journal_audit_bytes.specs.Reading.{raw_of};
 ghost use Rattle.journal_audit_world.specs.Kept.{IsKept};
 
 use iofd_words::{Config, NoMemory, Record};
-use journal_audit_bytes::{ReadError, SpelledRecord, read_record, typed_reply};
+use journal_audit_bytes::{ReadError, SpelledRecord, Version, read_record, typed_reply};
 use journal_audit_records::step;
 use journal_audit_world::World;
 use std::alloc::Allocator;
@@ -63,19 +63,20 @@ fn judge<A: Allocator + Copy>(
     }
 }
 
-/// What stands at the front of the bytes, at this position, and the bytes behind it; all of them where there is no
-/// record. If it is a lawful one the world becomes the one after it. The error is want of memory; the world is in any
-/// state then.
+/// What stands at the front of these bytes of a journal of this version, at this position, and the bytes behind it; all
+/// of them where there is no record. If it is a lawful one the world becomes the one after it. The error is want of
+/// memory; the world is in any state then.
 pub fn read_next<'a, A: Allocator + Copy>(
     alloc: A,
+    version: Version,
     at: u64,
     world: &mut World<A>,
     bytes: &'a [u8],
 ) -> Result<(Next, &'a [u8]), NoMemory>
     requires kept { IsKept at world.old }
-    ensures { IfOk result (λ x. IsNext A at world.old world.new bytes.now x.1.now x.0) }
+    ensures { IfOk result (λ x. IsNext A version at world.old world.new bytes.now x.1.now x.0) }
 {
-    match read_record(alloc, world.config.passes(), bytes) {
+    match read_record(alloc, version, world.config.passes(), bytes) {
         Ok((spelled, rest)) => {
             let lawful = judge(alloc, at, world, spelled)?;
             Ok((next_of(lawful), rest))

@@ -7,13 +7,12 @@ ghost use Rattle.journal_audit.specs.declared.verdict.Verdict.{Verdict};
 ghost use Rattle.journal_audit.specs.declared.verdict.Verdict.TheVariants.{Torn};
 ghost use Rattle.journal_audit_bytes.specs.Head.{SpellsHead};
 ghost use Rattle.journal_audit_bytes.specs.Version.{mark};
-ghost use Rattle.journal_audit_bytes.specs.declared.version.Version.{Version};
 ghost use Rattle.journal_audit_bytes.specs.declared.version.Version.TheVariants.{One, Two};
 
 use crate::next::{Next, read_next};
 use crate::verdict::Verdict;
 use iofd_words::NoMemory;
-use journal_audit_bytes::{ReadError, read_head};
+use journal_audit_bytes::{ReadError, Version, read_head};
 use journal_audit_world::World;
 use std::alloc::Allocator;
 
@@ -28,31 +27,32 @@ pub fn audit<A: Allocator + Copy>(alloc: A, bytes: &[u8]) -> Result<Verdict, NoM
         IsVerdict A (mark One ++ rest) v → IsVerdict A (mark Two ++ rest) v }
 {
     match read_head(alloc, bytes) {
-        Ok((_, config, rest)) => {
+        Ok((version, config, rest)) => {
             let mut world = World::opening(alloc, config);
-            go_through(alloc, &mut world, bytes, rest)
+            go_through(alloc, version, &mut world, bytes, rest)
         }
         Err(ReadError::Torn) => Ok(Verdict::Torn { offset: 0 }),
         Err(ReadError::Memory) => Err(NoMemory),
     }
 }
 
-// The same of bytes that begin with a head: it goes from record to record of the rest.
+// The same of bytes that begin with a head of this version: it goes from record to record of the rest.
 fn go_through<A: Allocator + Copy>(
     alloc: A,
+    version: Version,
     world: &mut World<A>,
     bytes: &[u8],
     records: &[u8],
 ) -> Result<Verdict, NoMemory>
     requires opening { world.old ≡ opening world.old.settings }
-    requires head { (version : Version) × (text : List ℕ) × SpellsHead version world.old.settings text
+    requires head { (text : List ℕ) × SpellsHead version world.old.settings text
         × (bytes.now ≡ text ++ records.now) }
     ensures { IfOk result (λ verdict. IsVerdict A bytes.now verdict) }
 {
     let mut rest = records;
     let mut index = 0;
     while !rest.is_empty() {
-        let (found, behind) = read_next(alloc, index as u64, world, rest)?;
+        let (found, behind) = read_next(alloc, version, index as u64, world, rest)?;
         match found {
             Next::Follows => {
                 rest = behind;

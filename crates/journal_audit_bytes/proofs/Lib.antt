@@ -6,4 +6,5 @@ pub mod HeadParts
 pub mod Least
 pub mod Many
 pub mod Records
+pub mod Tags
 pub mod Versions

@@ -4,11 +4,14 @@ use Rattle.std.proofs.Common.{Option, Some, None, Result, Ok, Err, IfOk, refl, s
 use Rattle.std.specs.Int.{Width, w8, w16, w32, w64, byte_len, to_le_bytes}
 use Rattle.std.proofs.lemmas.Bool.{eqb-true, ltb-true, lt-ltb}
 use Rattle.journal_audit_bytes.specs.Format.{ElementsFit, ListFits, Listed, Raw, Row, Spells, SpellsTagged, Tagged}
-use Rattle.journal_audit_bytes.specs.Format.{TailFits, elements_spelled, event_rows, frames, list_spelled, reply_rows}
-use Rattle.journal_audit_bytes.specs.Format.{row_of, spelled, tail_spelled}
+use Rattle.journal_audit_bytes.specs.Format.{TailFits, dirty_event_rows, dirty_reply_rows, elements_spelled, event_rows}
+use Rattle.journal_audit_bytes.specs.Format.{events_of, frames, list_spelled, replies_of, reply_rows, row_of, spelled}
+use Rattle.journal_audit_bytes.specs.Format.{tail_spelled}
 use Rattle.journal_audit_bytes.specs.Reading.{◌>>=◌, Gives, elements_at, fields_at, fields_of_row, fields_of_tag}
 use Rattle.journal_audit_bytes.specs.Reading.{list_at, number_at, record_at, some_if, tagged_at, tail_at}
 use Rattle.journal_audit_bytes.specs.declared.spelled.ReadError.{ReadError}
+use Rattle.journal_audit_bytes.specs.declared.version.Version.{Version}
+use Rattle.journal_audit_bytes.specs.declared.version.Version.TheVariants.{One, Two}
 use Rattle.journal_audit_bytes.proofs.Elements.{elements_again, elements_take}
 use Rattle.journal_audit_bytes.proofs.Fields.{AreWide, IsBytes, IsWide, Takes, Takes-then, bind_some, fields_again}
 use Rattle.journal_audit_bytes.proofs.Fields.{fields_take, number_again, number_takes, some_is, wide8, wide16, wide32}
@@ -194,6 +197,28 @@ events_wide =
       ),
     )
 
+switch_wide : {tag : ℕ} {allows : List ℕ → Bool}
+    → RowWide (record { tag = tag; numbers = w16 ∷ w32 ∷ w8 ∷ []; list = None; allows = allows })
+switch_wide = record { numbers = (wide16, (wide32, (wide8, tt))); list = tt }
+
+dirty_events_wide : AllWide dirty_event_rows
+dirty_events_wide = (switch_wide, (plain_wide (wide16, (wide32, (wide64, (wide64, tt)))), tt))
+
+dirty_replies_wide : AllWide dirty_reply_rows
+dirty_replies_wide = (plain_wide (wide64, (wide64, (wide64, (wide64, tt)))), tt)
+
+wide_too : (rows more : List Row) → AllWide rows → AllWide more → AllWide (rows ++ more)
+wide_too [] more wide also = also
+wide_too (row ∷ rows) more wide also = (wide.0, wide_too rows more wide.1 also)
+
+events_of_wide : (version : Version) → AllWide (events_of version)
+events_of_wide One = events_wide
+events_of_wide Two = wide_too event_rows dirty_event_rows events_wide dirty_events_wide
+
+replies_of_wide : (version : Version) → AllWide (replies_of version)
+replies_of_wide One = replies_wide
+replies_of_wide Two = wide_too reply_rows dirty_reply_rows replies_wide dirty_replies_wide
+
 -- ---- lists behind their number
 
 list_takes : (l : Listed) → IsListWide l → (bytes : List ℕ) (x : List (List ℕ) × List ℕ) → IsBytes bytes
@@ -315,27 +340,31 @@ module _ (rows : List Row) (wide : AllWide rows) where
 
 -- ---- whole records
 
-pub record_takes : (passes : ℕ) (bytes : List ℕ) (x : Raw × List ℕ) → IsBytes bytes → record_at passes bytes ≡ Some x
-    → (text : List ℕ) × Spells passes x.0 text × (bytes ≡ text ++ x.1)
+pub record_takes : (version : Version) (passes : ℕ) (bytes : List ℕ) (x : Raw × List ℕ) → IsBytes bytes
+    → record_at version passes bytes ≡ Some x
+    → (text : List ℕ) × Spells version passes x.0 text × (bytes ≡ text ++ x.1)
 unfolding record_at
-record_takes passes bytes x fits is =
-    let p = bind_some (number_at w16 bytes) (λ pass. cond (ltb pass.0 passes) (tagged_at event_rows pass.1) None
-    >>= λ e. tagged_at reply_rows e.1 >>= λ a. list_at frames a.1 >>= λ taken. list_at frames taken.1 >>= λ given.
+record_takes version passes bytes x fits is =
+    let p =
+    bind_some (number_at w16 bytes) (λ pass. cond (ltb pass.0 passes) (tagged_at (events_of version) pass.1) None
+    >>= λ e. tagged_at (replies_of version) e.1 >>= λ a. list_at frames a.1 >>= λ taken. list_at frames taken.1 >>=
+    λ given.
     Some (record { pass = pass.0; event = e.0; reply = a.0; taken = taken.0; given = given.0 }, given.1)) x is in
-    let e = bind_some (cond (ltb p.0.0 passes) (tagged_at event_rows p.0.1) None)
-    (λ e. tagged_at reply_rows e.1 >>= λ a. list_at frames a.1 >>= λ taken. list_at frames taken.1 >>= λ given.
+    let e = bind_some (cond (ltb p.0.0 passes) (tagged_at (events_of version) p.0.1) None)
+    (λ e. tagged_at (replies_of version) e.1 >>= λ a. list_at frames a.1 >>= λ taken. list_at frames taken.1 >>=
+    λ given.
     Some (record { pass = p.0.0; event = e.0; reply = a.0; taken = taken.0; given = given.0 }, given.1)) x p.2 in
-    let a = bind_some (tagged_at reply_rows e.0.1)
+    let a = bind_some (tagged_at (replies_of version) e.0.1)
     (λ a. list_at frames a.1 >>= λ taken. list_at frames taken.1 >>= λ given.
     Some (record { pass = p.0.0; event = e.0.0; reply = a.0; taken = taken.0; given = given.0 }, given.1)) x e.2 in
     let t = bind_some (list_at frames a.0.1) (λ taken. list_at frames taken.1 >>= λ given.
     Some (record { pass = p.0.0; event = e.0.0; reply = a.0.0; taken = taken.0; given = given.0 }, given.1)) x a.2 in
     let v = bind_some (list_at frames t.0.1) (λ given.
     Some (record { pass = p.0.0; event = e.0.0; reply = a.0.0; taken = t.0.0; given = given.0 }, given.1)) x t.2 in
-    let g = guard_else (ltb p.0.0 passes) (tagged_at event_rows p.0.1) e.0 e.1 in
+    let g = guard_else (ltb p.0.0 passes) (tagged_at (events_of version) p.0.1) e.0 e.1 in
     let pt = number_takes w16 wide16 bytes p.0.0 p.0.1 fits p.1 in
-    let et = tagged_takes event_rows events_wide p.0.1 e.0 pt.0.rest_fits g.1 in
-    let at = tagged_takes reply_rows replies_wide e.0.1 a.0 et.takes.rest_fits a.1 in
+    let et = tagged_takes (events_of version) (events_of_wide version) p.0.1 e.0 pt.0.rest_fits g.1 in
+    let at = tagged_takes (replies_of version) (replies_of_wide version) e.0.1 a.0 et.takes.rest_fits a.1 in
     let tt' = list_takes frames frames_wide a.0.1 t.0 at.takes.rest_fits t.1 in
     let gt = list_takes frames frames_wide t.0.1 v.0 tt'.0.rest_fits v.1 in
     let made : Raw × List ℕ =
@@ -347,7 +376,7 @@ record_takes passes bytes x fits is =
     let later = Takes-then p.0.1 et.text e.0.1 (at.text ++ (taken ++ given)) v.0.1 et.takes behind in
     let whole = Takes-then bytes (to_le_bytes w16 p.0.0) p.0.1 (et.text ++ (at.text ++ (taken ++ given))) v.0.1
     pt.0 later in
-    subst (λ (y : Raw × List ℕ). (text : List ℕ) × Spells passes y.0 text × (bytes ≡ text ++ y.1))
+    subst (λ (y : Raw × List ℕ). (text : List ℕ) × Spells version passes y.0 text × (bytes ≡ text ++ y.1))
     (some_is made x v.2) (
       to_le_bytes w16 p.0.0 ++ (et.text ++ (at.text ++ (taken ++ given))),
       record {
@@ -364,30 +393,31 @@ record_takes passes bytes x fits is =
       whole.parts,
     )
 
-pub record_again : (passes : ℕ) (r : Raw) (text rest : List ℕ) → Spells passes r text
-    → record_at passes (text ++ rest) ≡ Some (r, rest)
+pub record_again : (version : Version) (passes : ℕ) (r : Raw) (text rest : List ℕ) → Spells version passes r text
+    → record_at version passes (text ++ rest) ≡ Some (r, rest)
 unfolding record_at
-record_again passes r text rest s =
+record_again version passes r text rest s =
     let after_reply : List ℕ = list_spelled frames r.taken ++ (list_spelled frames r.given ++ rest) in
     let after_pass : List ℕ = s.event ++ (s.reply ++ after_reply) in
     let grouped : text ++ rest ≡ to_le_bytes w16 r.pass ++ after_pass = rw s.bytes_are (simp append_assoc) in
     let below : ltb r.pass passes ≡ true = lt-ltb _ _ s.pass in
-    ap (record_at passes) grouped
+    ap (record_at version passes) grouped
     ∙ rw (
       number_again w16 wide16 r.pass after_pass s.pass_fits,
       below,
-      tagged_again event_rows events_wide r.event s.event (s.reply ++ after_reply) s.event_is,
-      tagged_again reply_rows replies_wide r.reply s.reply after_reply s.reply_is,
+      tagged_again (events_of version) (events_of_wide version) r.event s.event (s.reply ++ after_reply) s.event_is,
+      tagged_again (replies_of version) (replies_of_wide version) r.reply s.reply after_reply s.reply_is,
       list_again frames frames_wide r.taken (list_spelled frames r.given ++ rest) s.taken_fit,
       list_again frames frames_wide r.given rest s.given_fit,
     ) refl
 
 -- what a reader answers
-pub is_found : {X : Type 0} (view : X → Raw × List ℕ) (passes : ℕ) (bytes : List ℕ) (r : Result X ReadError)
-    → IsBytes bytes → Gives view r (record_at passes bytes)
-    → IfOk r (λ x. (text : List ℕ) × Spells passes (view x).0 text × (bytes ≡ text ++ (view x).1))
-is_found view passes bytes (Ok x) fits given = record_takes passes bytes (view x) fits given
-is_found view passes bytes (Err e) fits given = tt
+pub is_found : {X : Type 0} (view : X → Raw × List ℕ) (version : Version) (passes : ℕ) (bytes : List ℕ)
+    (r : Result X ReadError)
+    → IsBytes bytes → Gives view r (record_at version passes bytes)
+    → IfOk r (λ x. (text : List ℕ) × Spells version passes (view x).0 text × (bytes ≡ text ++ (view x).1))
+is_found view version passes bytes (Ok x) fits given = record_takes version passes bytes (view x) fits given
+is_found view version passes bytes (Err e) fits given = tt
 
 -- ---- one spelling
 
@@ -398,12 +428,13 @@ one_tagged rows t a b p q =
     ∙ ap (λ (row : Row). to_le_bytes w8 t.tag ++ (spelled row.numbers t.numbers ++ tail_spelled row.list t.list)) same
     ∙ sym q.bytes_are
 
-pub one_spelling : (passes : ℕ) (r : Raw) (a b : List ℕ) → Spells passes r a → Spells passes r b → a ≡ b
-one_spelling passes r a b p q =
+pub one_spelling : (version : Version) (passes : ℕ) (r : Raw) (a b : List ℕ) → Spells version passes r a
+    → Spells version passes r b → a ≡ b
+one_spelling version passes r a b p q =
     let lists : List ℕ = list_spelled frames r.taken ++ list_spelled frames r.given in
     p.bytes_are
     ∙ ap (λ (x : List ℕ). to_le_bytes w16 r.pass ++ (x ++ (p.reply ++ lists)))
-    (one_tagged event_rows r.event p.event q.event p.event_is q.event_is)
+    (one_tagged (events_of version) r.event p.event q.event p.event_is q.event_is)
     ∙ ap (λ (x : List ℕ). to_le_bytes w16 r.pass ++ (q.event ++ (x ++ lists)))
-    (one_tagged reply_rows r.reply p.reply q.reply p.reply_is q.reply_is)
+    (one_tagged (replies_of version) r.reply p.reply q.reply p.reply_is q.reply_is)
     ∙ sym q.bytes_are

@@ -1,11 +1,14 @@
 -- The bytes of a record: its pass; the tag of its event, and that event's fields; the tag of its reply, and that
--- reply's fields; the table frames taken, and those given back. All numbers are little-endian.
+-- reply's fields; the table frames taken, and those given back. All numbers are little-endian. Which tags there are is
+-- the version's.
 use Rattle.std.specs.Prelude.{◌≡◌, ℕ, ◌^◌, ◌*◌, ◌<◌, nat_lt, Bool, true, ◌==◌, ◌&&◌, ◌||◌, Option, Some, None, List}
 use Rattle.std.specs.Prelude.{[]}
 use Rattle.std.specs.Prelude.{◌∷◌, ◌++◌, find, length, slice_index}
 use Rattle.std.specs.Int.{Width, w8, w16, w32, w64, byte_len, to_le_bytes}
 use Rattle.iofd_words.specs.Rights.{has_flag}
 use Rattle.iofd_words.specs.Settings.{is_between}
+use Rattle.journal_audit_bytes.specs.declared.version.Version.{Version}
+use Rattle.journal_audit_bytes.specs.declared.version.Version.TheVariants.{One, Two}
 
 -- ---- numbers and lists
 
@@ -75,6 +78,10 @@ is_kept numbers =
 abbrev pub is_purpose : List ℕ → Bool
 is_purpose numbers = nat_lt (slice_index numbers 4) 2
 
+-- the third number is 1 or 0, for on and off
+abbrev pub is_switch : List ℕ → Bool
+is_switch numbers = nat_lt (slice_index numbers 2) 2
+
 abbrev pub always : List ℕ → Bool
 always numbers = true
 
@@ -93,6 +100,7 @@ pin tag =
     record { tag = tag; numbers = w16 ∷ w32 ∷ w64 ∷ w64 ∷ w8 ∷ []; list = None; allows = is_purpose }
 
 -- a file is 16 bits wide, as are a user and a device; an id is 32 wide; an address and a length are 64
+-- those of either version
 abbrev pub event_rows : List Row
 event_rows =
     -- Close: file
@@ -140,6 +148,20 @@ event_rows =
     ∷ plain 0x89 (w16 ∷ w32 ∷ w32 ∷ [])
     ∷ []
 
+-- those that version 2 has more
+abbrev pub dirty_event_rows : List Row
+dirty_event_rows =
+    -- DIRTY_ENABLE: file, page table, on or off
+    record { tag = 0xf0; numbers = w16 ∷ w32 ∷ w8 ∷ []; list = None; allows = is_switch }
+    -- DIRTY_REPORT that clears: file, page table, address, length
+    ∷ plain 0xf1 (w16 ∷ w32 ∷ w64 ∷ w64 ∷ [])
+    ∷ []
+
+abbrev pub events_of : Version → List Row
+events_of One = event_rows
+events_of Two = event_rows ++ dirty_event_rows
+
+-- those of either version
 abbrev pub reply_rows : List Row
 reply_rows =
     -- Done
@@ -161,6 +183,17 @@ reply_rows =
     -- Refused: number
     ∷ plain 0x08 (w8 ∷ [])
     ∷ []
+
+-- those that version 2 has more
+abbrev pub dirty_reply_rows : List Row
+dirty_reply_rows =
+    -- Dirty: the four words
+    plain 0x09 (w64 ∷ w64 ∷ w64 ∷ w64 ∷ [])
+    ∷ []
+
+abbrev pub replies_of : Version → List Row
+replies_of One = reply_rows
+replies_of Two = reply_rows ++ dirty_reply_rows
 
 abbrev pub row_of : List Row → ℕ → Option Row
 row_of rows tag = find (λ row. row.tag == tag) rows
@@ -199,14 +232,14 @@ pub record Raw : Type 0 where
   pub taken : List (List ℕ)
   pub given : List (List ℕ)
 
--- these bytes are the record's, where there are so many passes
-pub record Spells (passes : ℕ) (r : Raw) (bytes : List ℕ) : Type 0 where
+-- these bytes are the record's in a journal of this version, where there are so many passes
+pub record Spells (version : Version) (passes : ℕ) (r : Raw) (bytes : List ℕ) : Type 0 where
   pub pass : r.pass < passes
   pub pass_fits : r.pass < 2 ^ (8 * byte_len w16)
   pub event : List ℕ
-  pub event_is : SpellsTagged event_rows r.event event
+  pub event_is : SpellsTagged (events_of version) r.event event
   pub reply : List ℕ
-  pub reply_is : SpellsTagged reply_rows r.reply reply
+  pub reply_is : SpellsTagged (replies_of version) r.reply reply
   pub taken_fit : ListFits frames r.taken
   pub given_fit : ListFits frames r.given
   pub bytes_are : bytes

@@ -4,6 +4,7 @@ use Rattle.std.specs.Prelude.{length, map, take, drop, if◌then◌else◌}
 use Rattle.std.specs.Int.{Width, w8, w16, byte_len, from_le_bytes}
 use Rattle.iofd_words.specs.Bounds.{Bounds}
 use Rattle.iofd_words.specs.declared.event.CopyRequest.{CopyRequest}
+use Rattle.iofd_words.specs.declared.event.DirtyRequest.{DirtyRequest}
 use Rattle.iofd_words.specs.declared.event.Event.{Event}
 use Rattle.iofd_words.specs.declared.event.Event.TheVariants as event
 use Rattle.iofd_words.specs.declared.event.MapRequest.{MapRequest}
@@ -14,7 +15,8 @@ use Rattle.journal_audit_bytes.specs.declared.spelled.SpelledReply.TheVariants a
 use Rattle.journal_audit_bytes.specs.declared.spelled.ReadError.{ReadError}
 use Rattle.journal_audit_bytes.specs.declared.spelled.ReadError.TheVariants.{Memory, Torn}
 use Rattle.journal_audit_bytes.specs.declared.spelled.SpelledRecord.{SpelledRecord}
-use Rattle.journal_audit_bytes.specs.Format.{Listed, Raw, Row, Tagged, event_rows, frames, reply_rows, row_of}
+use Rattle.journal_audit_bytes.specs.declared.version.Version.{Version}
+use Rattle.journal_audit_bytes.specs.Format.{Listed, Raw, Row, Tagged, events_of, frames, replies_of, row_of}
 
 infixl 10 ◌>>=◌
 abbrev pub ◌>>=◌ : {A B : Type 0} → Option A → (A → Option B) → Option B
@@ -87,11 +89,11 @@ tagged_at rows bytes = do
   tag ← number_at w8 bytes
   fields_of_tag rows tag.0 tag.1
 
-unfoldable pub record_at : ℕ → List ℕ → Option (Raw × List ℕ)
-record_at passes bytes = do
+unfoldable pub record_at : Version → ℕ → List ℕ → Option (Raw × List ℕ)
+record_at version passes bytes = do
   pass ← number_at w16 bytes
-  e ← (if nat_lt pass.0 passes then tagged_at event_rows pass.1 else None)
-  a ← tagged_at reply_rows e.1
+  e ← (if nat_lt pass.0 passes then tagged_at (events_of version) pass.1 else None)
+  a ← tagged_at (replies_of version) e.1
   taken ← list_at frames a.1
   given ← list_at frames taken.1
   Some (record { pass = pass.0; event = e.0; reply = a.0; taken = taken.0; given = given.0 }, given.1)
@@ -121,8 +123,15 @@ copy_numbers file c =
 abbrev pub purpose_number : Bool → ℕ
 purpose_number write = if write then 1 else 0
 
+-- 1 for on, 0 for off
+abbrev pub switch_number : Bool → ℕ
+switch_number on = if on then 1 else 0
+
 abbrev pub pin_numbers : ℕ → ℕ → PinRequest → List ℕ
 pin_numbers file id p = file ∷ id ∷ p.iova.0 ∷ p.length ∷ purpose_number p.write ∷ []
+
+abbrev pub dirty_numbers : ℕ → DirtyRequest → List ℕ
+dirty_numbers file d = file ∷ d.hwpt.0 ∷ d.iova.0 ∷ d.length ∷ []
 
 abbrev pub tagged_event : {A : Type 0} → Event A → Tagged
 tagged_event (event.Close file) = plainly 0x01 (file.0 ∷ [])
@@ -153,6 +162,8 @@ tagged_event (event.Map file request) = plainly 0x85 (map_numbers file.0 request
 tagged_event (event.Unmap file request) =
     plainly 0x86 (file.0 ∷ request.ioas.0 ∷ request.iova.0 ∷ request.length ∷ [])
 tagged_event (event.HwptAlloc file request) = plainly 0x89 (file.0 ∷ request.device.0 ∷ request.ioas.0 ∷ [])
+tagged_event (event.DirtyEnable file hwpt on) = plainly 0xf0 (file.0 ∷ hwpt.0 ∷ switch_number on ∷ [])
+tagged_event (event.DirtyClear file request) = plainly 0xf1 (dirty_numbers file.0 request)
 
 abbrev pub tagged_reply : SpelledReply → Tagged
 tagged_reply reply.Done = plainly 0x00 []
@@ -164,6 +175,7 @@ tagged_reply (reply.Frame frame) = plainly 0x05 (frame ∷ [])
 tagged_reply (reply.Passed frame) = plainly 0x06 (frame ∷ [])
 tagged_reply (reply.Fault reason) = plainly 0x07 (reason ∷ [])
 tagged_reply (reply.Refused number) = plainly 0x08 (number ∷ [])
+tagged_reply (reply.Dirty words) = plainly 0x09 words
 
 abbrev pub raw_of : {A : Type 0} → SpelledRecord A → Raw
 raw_of r =

@@ -39,7 +39,7 @@ causes =
     ∷ cause.Absent ∷ cause.Overlap ∷ cause.Span ∷ cause.Id ∷ cause.InUse ∷ cause.Bound ∷ cause.Width ∷ cause.Narrow
     ∷ cause.Rights ∷ cause.Leaving ∷ cause.NotHeld ∷ cause.Sum ∷ cause.Align ∷ cause.NoRight ∷ cause.Reserved
     ∷ cause.Full ∷ cause.List ∷ cause.Places ∷ cause.Cross ∷ cause.InterruptRange ∷ cause.Unattached ∷ cause.Pending
-    ∷ []
+    ∷ cause.Tracking ∷ []
 
 abbrev pub errno_by : ℕ → Option Errno
 errno_by number = find (λ errno. errno_number errno == number) errnos
@@ -79,6 +79,7 @@ reply_of settings event (spelled.Passed frame) = Some (reply.Passed (record { 0 
 reply_of settings event (spelled.Fault reason) = option_map (λ f. reply.Fault f) (fault_by settings event reason)
 reply_of settings event (spelled.Refused number) =
     option_map (λ c. reply.Refused (record { cause = c })) (cause_by number)
+reply_of settings event (spelled.Dirty words) = Some (reply.Dirty words)
 
 -- ---- from the reply to what a record tells
 
@@ -92,3 +93,4 @@ told (reply.Frame frame) = spelled.Frame frame.0
 told (reply.Passed frame) = spelled.Passed frame.0
 told (reply.Fault fault) = spelled.Fault (reason_number fault.reason)
 told (reply.Refused refusal) = spelled.Refused (number_of refusal.cause)
+told (reply.Dirty words) = spelled.Dirty words

@@ -1,4 +1,5 @@
--- What each version of the format has, and another may have otherwise.
+-- What the head of each version of the format has, and another may have otherwise; the tags of a record's event and
+-- reply are in `Format`.
 use Rattle.std.specs.Prelude.{ℕ, ◌==◌, Option, List, [], ◌∷◌, codes, find}
 use Rattle.iofd_words.specs.Width.{bits_of}
 use Rattle.iofd_words.specs.declared.width.Width.{Width}

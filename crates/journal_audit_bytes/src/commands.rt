@@ -3,14 +3,15 @@
 
 ghost use Rattle.std.specs.Prelude.{◌≡◌, ◌==◌, ◌&&◌, ◌||◌, nat_lt};
 ghost use Rattle.iofd_words.specs.Rights.{has_flag};
-ghost use Rattle.journal_audit_bytes.specs.Format.{event_rows};
+ghost use Rattle.journal_audit_bytes.specs.Format.{dirty_event_rows, event_rows};
 ghost use Rattle.journal_audit_bytes.specs.Reading.{Gives, fields_of_tag, tagged_event};
 
 use crate::lists::entries_at;
-use crate::numbers::{u16_at, u32_at, u64_at};
+use crate::numbers::{u8_at, u16_at, u32_at, u64_at};
 use crate::spelled::ReadError;
 use iofd_words::{
-    CopyRequest, Event, FileNo, HwptRequest, Iova, MapFlags, MapRequest, ObjId, UnmapRequest,
+    CopyRequest, DirtyRequest, Event, FileNo, HwptRequest, Iova, MapFlags, MapRequest, ObjId,
+    UnmapRequest,
 };
 use std::alloc::Allocator;
 
@@ -114,4 +115,31 @@ pub fn copy_at<A: Allocator>(bytes: &[u8]) -> Result<(Event<A>, &[u8]), ReadErro
         src_iova: Iova(src_iova),
     };
     Ok((Event::Copy(FileNo(file), request), rest))
+}
+
+// ---- of version 2 alone
+
+pub fn dirty_enable_at<A: Allocator>(bytes: &[u8]) -> Result<(Event<A>, &[u8]), ReadError>
+    ensures { Gives (λ x. (tagged_event x.0, x.1.now)) result (fields_of_tag dirty_event_rows 0xf0 bytes.now) }
+{
+    let (file, rest) = u16_at(bytes)?;
+    let (hwpt, rest) = u32_at(rest)?;
+    let (on, rest) = u8_at(rest)?;
+    if on > 1 {
+        return Err(ReadError::Torn);
+    }
+    let on = on == 1;
+    Ok((Event::DirtyEnable(FileNo(file), ObjId(hwpt), on), rest))
+}
+
+pub fn dirty_clear_at<A: Allocator>(bytes: &[u8]) -> Result<(Event<A>, &[u8]), ReadError>
+    ensures { Gives (λ x. (tagged_event x.0, x.1.now)) result (fields_of_tag dirty_event_rows 0xf1 bytes.now) }
+{
+    let (file, rest) = u16_at(bytes)?;
+    let (hwpt, rest) = u32_at(rest)?;
+    let (iova, rest) = u64_at(rest)?;
+    let (length, rest) = u64_at(rest)?;
+    let (hwpt, iova) = (ObjId(hwpt), Iova(iova));
+    let request = DirtyRequest { hwpt, iova, length };
+    Ok((Event::DirtyClear(FileNo(file), request), rest))
 }

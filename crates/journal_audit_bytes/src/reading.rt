@@ -1,12 +1,14 @@
 //! From bytes to a record.
 
 ghost use Rattle.std.specs.Prelude.{◌≡◌, ◌++◌, List, ℕ, Some, IfOk};
-ghost use Rattle.journal_audit_bytes.specs.Format.{Raw, Spells, event_rows, frames, reply_rows};
+ghost use Rattle.journal_audit_bytes.specs.Format.{Raw, Spells, dirty_event_rows, dirty_reply_rows, event_rows};
+ghost use Rattle.journal_audit_bytes.specs.Format.{events_of, frames, replies_of, reply_rows};
 ghost use Rattle.journal_audit_bytes.specs.Reading.{Gives, fields_of_tag, of_frames, raw_of, record_at, tagged_at};
 ghost use Rattle.journal_audit_bytes.specs.Reading.{tagged_event, tagged_reply};
 
 use crate::commands::{
-    allow_iovas_at, copy_at, destroy_at, hwpt_alloc_at, ioas_alloc_at, map_at, unmap_at,
+    allow_iovas_at, copy_at, destroy_at, dirty_clear_at, dirty_enable_at, hwpt_alloc_at,
+    ioas_alloc_at, map_at, unmap_at,
 };
 use crate::lists::frames_at;
 use crate::numbers::{u8_at, u16_at, u32_at, u64_at};
@@ -16,10 +18,11 @@ use crate::steps::{
     access_write_at, attach_at, bind_at, close_at, detach_at, device_write_at, flush_at, unbind_at,
     user_map_at, user_unmap_at, user_write_at,
 };
+use crate::version::Version;
 use iofd_words::{Event, PassNo};
 use std::alloc::Allocator;
 
-// The event of a tag, by the fields at the front.
+// The event of a tag that either version has, by the fields at the front.
 #[tactic(auto, unfolding(crate::specs::Reading::fields_of_tag))]
 fn event_of_tag<A: Allocator>(
     alloc: A,
@@ -56,15 +59,51 @@ fn event_of_tag<A: Allocator>(
     }
 }
 
-#[tactic(auto, unfolding(crate::specs::Reading::tagged_at))]
-fn event_at<A: Allocator>(alloc: A, bytes: &[u8]) -> Result<(Event<A>, &[u8]), ReadError>
-    ensures { Gives (λ x. (tagged_event x.0, x.1.now)) result (tagged_at event_rows bytes.now) }
+// The event of a tag that version 2 alone has.
+#[tactic(auto, unfolding(crate::specs::Reading::fields_of_tag))]
+fn dirty_event_of_tag<A: Allocator>(tag: u8, bytes: &[u8]) -> Result<(Event<A>, &[u8]), ReadError>
+    ensures { Gives (λ x. (tagged_event x.0, x.1.now)) result (fields_of_tag dirty_event_rows tag bytes.now) }
 {
-    let (tag, rest) = u8_at(bytes)?;
-    event_of_tag(alloc, tag, rest)
+    match tag {
+        0xf0 => dirty_enable_at(bytes),
+        0xf1 => dirty_clear_at(bytes),
+        _ => Err(ReadError::Torn),
+    }
 }
 
-// The reply of a tag, by the fields at the front.
+// The event of a tag of the version.
+fn event_of<A: Allocator>(
+    alloc: A,
+    version: Version,
+    tag: u8,
+    bytes: &[u8],
+) -> Result<(Event<A>, &[u8]), ReadError>
+    ensures { Gives (λ x. (tagged_event x.0, x.1.now)) result (fields_of_tag (events_of version) tag bytes.now) }
+{
+    match version {
+        Version::One => event_of_tag(alloc, tag, bytes),
+        Version::Two => {
+            if tag >= 0xf0 {
+                return dirty_event_of_tag(tag, bytes);
+            }
+            event_of_tag(alloc, tag, bytes)
+        }
+    }
+}
+
+#[tactic(auto, unfolding(crate::specs::Reading::tagged_at))]
+fn event_at<A: Allocator>(
+    alloc: A,
+    version: Version,
+    bytes: &[u8],
+) -> Result<(Event<A>, &[u8]), ReadError>
+    ensures { Gives (λ x. (tagged_event x.0, x.1.now)) result (tagged_at (events_of version) bytes.now) }
+{
+    let (tag, rest) = u8_at(bytes)?;
+    event_of(alloc, version, tag, rest)
+}
+
+// The reply of a tag that either version has, by the fields at the front.
 #[tactic(auto, unfolding(crate::specs::Reading::fields_of_tag, crate::specs::Reading::fields_of_row))]
 fn reply_of_tag(tag: u8, bytes: &[u8]) -> Result<(SpelledReply, &[u8]), ReadError>
     ensures { Gives (λ x. (tagged_reply x.0, x.1.now)) result (fields_of_tag reply_rows tag bytes.now) }
@@ -107,28 +146,61 @@ fn reply_of_tag(tag: u8, bytes: &[u8]) -> Result<(SpelledReply, &[u8]), ReadErro
     }
 }
 
+// The reply of a tag that version 2 alone has: the words by which it is told which pages were written.
+#[tactic(auto, unfolding(crate::specs::Reading::fields_of_tag, crate::specs::Reading::fields_of_row))]
+fn dirty_reply_of_tag(tag: u8, bytes: &[u8]) -> Result<(SpelledReply, &[u8]), ReadError>
+    ensures { Gives (λ x. (tagged_reply x.0, x.1.now)) result (fields_of_tag dirty_reply_rows tag bytes.now) }
+{
+    match tag {
+        0x09 => {
+            let (first, rest) = u64_at(bytes)?;
+            let (second, rest) = u64_at(rest)?;
+            let (third, rest) = u64_at(rest)?;
+            let (fourth, rest) = u64_at(rest)?;
+            Ok((SpelledReply::Dirty([first, second, third, fourth]), rest))
+        }
+        _ => Err(ReadError::Torn),
+    }
+}
+
+// The reply of a tag of the version.
+fn reply_of(version: Version, tag: u8, bytes: &[u8]) -> Result<(SpelledReply, &[u8]), ReadError>
+    ensures { Gives (λ x. (tagged_reply x.0, x.1.now)) result (fields_of_tag (replies_of version) tag bytes.now) }
+{
+    match version {
+        Version::One => reply_of_tag(tag, bytes),
+        Version::Two => {
+            if tag >= 0x09 {
+                return dirty_reply_of_tag(tag, bytes);
+            }
+            reply_of_tag(tag, bytes)
+        }
+    }
+}
+
 #[tactic(auto, unfolding(crate::specs::Reading::tagged_at))]
-fn reply_at(bytes: &[u8]) -> Result<(SpelledReply, &[u8]), ReadError>
-    ensures { Gives (λ x. (tagged_reply x.0, x.1.now)) result (tagged_at reply_rows bytes.now) }
+fn reply_at(version: Version, bytes: &[u8]) -> Result<(SpelledReply, &[u8]), ReadError>
+    ensures { Gives (λ x. (tagged_reply x.0, x.1.now)) result (tagged_at (replies_of version) bytes.now) }
 {
     let (tag, rest) = u8_at(bytes)?;
-    reply_of_tag(tag, rest)
+    reply_of(version, tag, rest)
 }
 
 #[tactic(auto, unfolding(crate::specs::Reading::record_at))]
 fn record_at<A: Allocator + Copy>(
     alloc: A,
+    version: Version,
     passes: u16,
     bytes: &[u8],
 ) -> Result<(SpelledRecord<A>, &[u8]), ReadError>
-    ensures { Gives (λ x. (raw_of x.0, x.1.now)) result (record_at passes bytes.now) }
+    ensures { Gives (λ x. (raw_of x.0, x.1.now)) result (record_at version passes bytes.now) }
 {
     let (pass, rest) = u16_at(bytes)?;
     if pass >= passes {
         return Err(ReadError::Torn);
     }
-    let (event, rest) = event_at(alloc, rest)?;
-    let (reply, rest) = reply_at(rest)?;
+    let (event, rest) = event_at(alloc, version, rest)?;
+    let (reply, rest) = reply_at(version, rest)?;
     let (taken, rest) = frames_at(alloc, rest)?;
     let (given, rest) = frames_at(alloc, rest)?;
     let pass = PassNo(pass);
@@ -142,24 +214,25 @@ fn record_at<A: Allocator + Copy>(
     Ok((record, rest))
 }
 
-/// The record at the front of the bytes, and the bytes after it, where there are so many passes. The error is Torn
-/// where the bytes begin with no record: they end within it, a tag is unknown, its pass isn't below the passes, an
-/// access has no byte or more than 64, what a pin is for is neither 0 nor 1, flags have an unknown bit, or an address
-/// that they don't fix isn't 0. It is Memory where the memory for a list of the record was refused; a list for which
-/// the bytes are too few takes none.
+/// The record at the front of these bytes of a journal of this version, and the bytes after it, where there are so many
+/// passes. The error is Torn where the bytes begin with no record: they end within it, the version has no such tag, its
+/// pass isn't below the passes, an access has no byte or more than 64, what a pin is for or whether pages are tracked
+/// is neither 0 nor 1, flags have an unknown bit, or an address that they don't fix isn't 0. It is Memory where the
+/// memory for a list of the record was refused; a list for which the bytes are too few takes none.
 pub fn read_record<A: Allocator + Copy>(
     alloc: A,
+    version: Version,
     passes: u16,
     bytes: &[u8],
 ) -> Result<(SpelledRecord<A>, &[u8]), ReadError>
     // What is read is spelled so.
     ensures found { IfOk result
-        (λ x. (text : List ℕ) × Spells passes (raw_of x.0) text × (bytes.now ≡ text ++ x.1.now)) }
+        (λ x. (text : List ℕ) × Spells version passes (raw_of x.0) text × (bytes.now ≡ text ++ x.1.now)) }
     // What is spelled so is read, unless memory was refused: the bytes are torn only where they begin with no record.
-    ensures only { (r : Raw) (text rest : List ℕ) → Spells passes r text → bytes.now ≡ text ++ rest →
+    ensures only { (r : Raw) (text rest : List ℕ) → Spells version passes r text → bytes.now ≡ text ++ rest →
         Gives {Y = Raw × List ℕ} (λ x. (raw_of x.0, x.1.now)) result (Some (r, rest)) }
     // A record has one spelling.
-    ensures one { (r : Raw) (a b : List ℕ) → Spells passes r a → Spells passes r b → a ≡ b }
+    ensures one { (r : Raw) (a b : List ℕ) → Spells version passes r a → Spells version passes r b → a ≡ b }
 {
-    record_at(alloc, passes, bytes)
+    record_at(alloc, version, passes, bytes)
 }

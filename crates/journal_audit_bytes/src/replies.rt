@@ -82,6 +82,7 @@ fn cause_by(number: u8) -> Option<Cause>
         27 => Some(Cause::InterruptRange),
         28 => Some(Cause::Unattached),
         29 => Some(Cause::Pending),
+        30 => Some(Cause::Tracking),
         _ => None,
     }
 }
@@ -144,5 +145,6 @@ pub fn typed_reply<A: Allocator, B: Allocator>(
         SpelledReply::Refused(number) => {
             cause_by(number).map(|cause| Reply::Refused(Refusal { cause }))
         }
+        SpelledReply::Dirty(words) => Some(Reply::Dirty(words)),
     }
 }

@@ -26,6 +26,8 @@ pub enum SpelledReply {
     Fault(u8),
     /// The number of a refusal.
     Refused(u8),
+    /// The words by which it is told which pages were written.
+    Dirty([u64; 4]),
 }
 
 /// A well-spelled record.

@@ -8,9 +8,9 @@ use iofd_words::Width;
 /// A version of the format of journals. The mark at the front of a journal's head says which it is.
 #[derive(Clone, Copy, PartialEq, Eq, Debug)]
 pub enum Version {
-    /// The addresses of a device have 39 or 48 bits.
+    /// The addresses of a device have 39 or 48 bits, and no record is of dirty tracking.
     One,
-    /// As version 1, but that they may have 57 bits, too.
+    /// As version 1, but that they may have 57 bits, too, and that dirty tracking is recorded.
     Two,
 }
 

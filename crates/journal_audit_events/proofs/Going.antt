@@ -1,7 +1,7 @@
 -- The world after an event by which page tables, areas or access pins go: the pins of pages that are to be pinned still
 -- stay, and no others. Those of memory objects that aren't asked for do.
 use Rattle.std.proofs.Common.{◌≡◌, ℕ, Bool, true, false, ◌&&◌, ◌||◌, not, eqb, Option, Some, None, List, [], ◌∷◌, ◌++◌}
-use Rattle.std.proofs.Common.{refl, sym, ap, subst, ◌∙◌, arith, inl, inr}
+use Rattle.std.proofs.Common.{refl, sym, ap, subst, ◌∙◌, arith, inl, inr, cond}
 use Rattle.std.proofs.lemmas.Bool.Decides.{nat_tests}
 use Rattle.std.specs.List.{filter, list_all, list_any}
 use Rattle.iofd_rows.specs.Ids.{have_own_ids}
@@ -16,12 +16,13 @@ use Rattle.iofd_runs.proofs.KeepsPins.{accesses_kept}
 use Rattle.iofd_runs.proofs.NotRefused.{not_not}
 use Rattle.iofd_runs.proofs.PagesToPin.{AccessedAlike, gone_within}
 use Rattle.iofd_words.specs.Accesses.{pin_of}
-use Rattle.iofd_words.specs.After.{changed, detach_changes, detached, goes_with, settle, without_areas}
+use Rattle.iofd_words.specs.After.{changed, detach_changes, detached, goes_with, settle, tracked_without, without_areas}
 use Rattle.iofd_words.specs.Allowed.{AllowedRanges, without_allowed}
 use Rattle.iofd_words.specs.Answers.{Answers}
 use Rattle.iofd_words.specs.Areas.{all_paid, is_of, paid}
 use Rattle.iofd_words.specs.Attachments.{attachment_of, has_device_on, ioas_of, without_attachment}
 use Rattle.iofd_words.specs.Checks.{refusal}
+use Rattle.iofd_words.specs.Dirty.{TrackedTable, without_tracked}
 use Rattle.iofd_words.specs.Objects.{has_hwpt, is_automatic, is_hwpt_over, is_object, kind_of, without_object}
 use Rattle.iofd_words.specs.Pins.{is_pinned, page_of_pin, without_pin}
 use Rattle.iofd_words.specs.World.{World}
@@ -91,6 +92,7 @@ destroyed w file id = record w {
   memory = filter (λ m. list_any (λ area. eqb area.memory m.number && not (is_of file id area)) w.areas) w.memory;
   areas = filter (λ area. not (is_of file id area)) w.areas;
   allowed = without_allowed file id w.allowed;
+  tracked = without_tracked file id w.tracked;
 }
 
 destroyed_is : (A : Type 0) (at : ℕ) (w : World) (file : FileNo) (id : ObjId) → IsKept at w
@@ -114,6 +116,7 @@ closed w file = record w {
   areas = filter (λ area. not (eqb area.file.0 file.0)) w.areas;
   attachments = filter (λ a. not (eqb a.file.0 file.0)) w.attachments;
   allowed = filter (λ ranges. not (eqb ranges.file.0 file.0)) w.allowed;
+  tracked = filter (λ table. not (eqb table.file.0 file.0)) w.tracked;
   closed = w.closed ++ file ∷ [];
 }
 
@@ -406,11 +409,20 @@ unpin_done A at v w new file id request answer objects areas access_pins same ke
     ∙ ap (λ (r : Reply). unwritten (changed {A = A} at w (event.AccessUnpin file id request) r)) (sym answered)
 
 pub detach_done : (A : Type 0) (at : ℕ) (v w new : World) (device : DeviceNo) (a : Attachment) (answer : Reply)
-    (found : Option Attachment) (rows : List Attachment) (used : Bool) (others : List Attachment) (objects : List
+    (found : Option Attachment) (rows : List Attachment) (used : Bool) (others : List Attachment) (objects stood : List
     Object) (areas : List Area) (access_pins : List AccessPin)
     → v ≡ w → IsKept at w → refusal {A = A} w (event.Detach device) ≡ None → answer ≡ reply.Done
     → found ≡ attachment_of rows device → found ≡ Some a → rows ≡ v.attachments
-    → new ≡ record v { objects = new.objects; areas = new.areas; pins = new.pins; attachments = new.attachments }
+    → new ≡ record v {
+      objects = new.objects;
+      areas = new.areas;
+      pins = new.pins;
+      attachments = new.attachments;
+      tracked = new.tracked;
+    }
+    → stood ≡ v.objects
+    → new.tracked ≡ cond (list_any (λ o. is_object a.file a.hwpt o && is_automatic o.kind && not used) stood)
+    (without_tracked a.file a.hwpt v.tracked) v.tracked
     → new.attachments ≡ without_attachment device v.attachments → others ≡ new.attachments
     → used ≡ has_device_on others a.file a.hwpt
     → new.objects ≡ filter (λ o. not (is_object a.file a.hwpt o && is_automatic o.kind && not used)) v.objects
@@ -418,8 +430,8 @@ pub detach_done : (A : Type 0) (at : ℕ) (v w new : World) (device : DeviceNo) 
     → new.pins ≡ pinned_still objects areas access_pins v.pins
     → unwritten new ≡ unwritten (changed {A = A} at w (event.Detach device) answer)
 unfolding changed detached
-detach_done A at v w new device a answer found rows used others objects areas access_pins same kept none answered finds
-    some rows_are new_is
+detach_done A at v w new device a answer found rows used others objects stood areas access_pins same kept none answered
+    finds some rows_are new_is stood_is tracked_is
     attachments_are seen used_is objects_are areas_are o r p pins =
     let is : attachment_of v.attachments device ≡ Some a =
     sym (finds ∙ ap (λ (l : List Attachment). attachment_of l device) rows_are) ∙ some in
@@ -430,6 +442,8 @@ detach_done A at v w new device a answer found rows used others objects areas ac
     let left : List Object =
     filter (λ o. not (goes_with (without_attachment device v.attachments) a o)) v.objects in
     let objects_left : new.objects ≡ left = objects_are ∙ rw used_v refl in
+    let tracked_left : new.tracked ≡ tracked_without (without_attachment device v.attachments) a v =
+    tracked_is ∙ rw (stood_is, used_v) refl in
     let pins_are : new.pins ≡ pinned_still left (all_paid device v.areas) v.access_pins v.pins =
     pins ∙ rw (o, r, p, objects_left, areas_are) refl in
     ap (λ (x : World). unwritten x) new_is
@@ -438,25 +452,36 @@ detach_done A at v w new device a answer found rows used others objects areas ac
       areas = new.areas;
       pins = new.pins;
       attachments = new.attachments;
+      tracked = new.tracked;
     })) objects_left
     ∙ ap (λ (rs : List Area). unwritten (record v {
       objects = left;
       areas = rs;
       pins = new.pins;
       attachments = new.attachments;
+      tracked = new.tracked;
     })) areas_are
     ∙ ap (λ (ps : List Pin). unwritten (record v {
       objects = left;
       areas = all_paid device v.areas;
       pins = ps;
       attachments = new.attachments;
+      tracked = new.tracked;
     })) pins_are
     ∙ ap (λ (rows : List Attachment). unwritten (record v {
       objects = left;
       areas = all_paid device v.areas;
       pins = pinned_still left (all_paid device v.areas) v.access_pins v.pins;
       attachments = rows;
+      tracked = new.tracked;
     })) attachments_are
+    ∙ ap (λ (rows : List TrackedTable). unwritten (record v {
+      objects = left;
+      areas = all_paid device v.areas;
+      pins = pinned_still left (all_paid device v.areas) v.access_pins v.pins;
+      attachments = without_attachment device v.attachments;
+      tracked = rows;
+    })) tracked_left
     ∙ ap (λ (x : World). unwritten x) (sym (detached_is A at v device a kept_v none_v is))
     ∙ ap (λ (found : Option Attachment). unwritten (detach_changes v device found)) (sym is)
     ∙ ap (λ (x : World). unwritten (detach_changes x device (attachment_of x.attachments device))) same
@@ -470,8 +495,10 @@ pub destroy_done : (A : Type 0) (at : ℕ) (v w new : World) (file : FileNo) (id
       memory = new.memory;
       areas = new.areas;
       allowed = new.allowed;
+      tracked = new.tracked;
       pins = new.pins;
     }
+    → new.tracked ≡ without_tracked file id v.tracked
     → new.areas ≡ filter (λ area. not (is_of file id area)) v.areas → over ≡ new.areas
     → new.memory ≡ filter (λ m. list_any (λ area. eqb area.memory m.number) over) v.memory
     → new.objects ≡ without_object file id v.objects → new.allowed ≡ without_allowed file id v.allowed
@@ -479,8 +506,8 @@ pub destroy_done : (A : Type 0) (at : ℕ) (v w new : World) (file : FileNo) (id
     → new.pins ≡ pinned_still objects areas access_pins v.pins
     → unwritten new ≡ unwritten (changed {A = A} at w (event.Destroy file id) answer)
 unfolding changed without_areas
-destroy_done A at v w new file id answer over objects areas access_pins same kept none answered new_is areas_are
-    seen memory_is objects_are allowed_is o r p pins =
+destroy_done A at v w new file id answer over objects areas access_pins same kept none answered new_is tracked_is
+    areas_are seen memory_is objects_are allowed_is o r p pins =
     let kept_v = subst (λ (x : World). IsKept at x) (sym same) kept in
     let none_v = subst (λ (x : World). refusal {A = A} x (event.Destroy file id) ≡ None) (sym same) none in
     let left = destroyed v file id in
@@ -494,6 +521,7 @@ destroy_done A at v w new file id answer over objects areas access_pins same kep
       memory = new.memory;
       areas = new.areas;
       allowed = new.allowed;
+      tracked = new.tracked;
       pins = new.pins;
     })) objects_are
     ∙ ap (λ (ms : List MemoryObject). unwritten (record v {
@@ -501,6 +529,7 @@ destroy_done A at v w new file id answer over objects areas access_pins same kep
       memory = ms;
       areas = new.areas;
       allowed = new.allowed;
+      tracked = new.tracked;
       pins = new.pins;
     })) memory_left
     ∙ ap (λ (rs : List Area). unwritten (record v {
@@ -508,6 +537,7 @@ destroy_done A at v w new file id answer over objects areas access_pins same kep
       memory = left.memory;
       areas = rs;
       allowed = new.allowed;
+      tracked = new.tracked;
       pins = new.pins;
     })) areas_are
     ∙ ap (λ (rows : List AllowedRanges). unwritten (record v {
@@ -515,8 +545,17 @@ destroy_done A at v w new file id answer over objects areas access_pins same kep
       memory = left.memory;
       areas = left.areas;
       allowed = rows;
+      tracked = new.tracked;
       pins = new.pins;
     })) allowed_is
+    ∙ ap (λ (rows : List TrackedTable). unwritten (record v {
+      objects = left.objects;
+      memory = left.memory;
+      areas = left.areas;
+      allowed = left.allowed;
+      tracked = rows;
+      pins = new.pins;
+    })) tracked_is
     ∙ ap (λ (ps : List Pin). unwritten (record left { pins = ps })) pins_are
     ∙ ap (λ (x : World). unwritten x) (sym (destroyed_is A at v file id kept_v none_v))
     ∙ ap (λ (x : World). unwritten (settle x (destroyed x file id))) same
@@ -532,9 +571,11 @@ pub close_done : (A : Type 0) (at : ℕ) (v w new : World) (file : FileNo) (answ
       attachments = new.attachments;
       allowed = new.allowed;
       closed = new.closed;
+      tracked = new.tracked;
       pins = new.pins;
     }
     → new.closed ≡ v.closed ++ file ∷ []
+    → new.tracked ≡ filter (λ table. not (eqb table.file.0 file.0)) v.tracked
     → new.areas ≡ filter (λ area. not (eqb area.file.0 file.0)) v.areas → over ≡ new.areas
     → new.memory ≡ filter (λ m. list_any (λ area. eqb area.memory m.number) over) v.memory
     → new.objects ≡ filter (λ object. not (eqb object.file.0 file.0)) v.objects
@@ -545,7 +586,7 @@ pub close_done : (A : Type 0) (at : ℕ) (v w new : World) (file : FileNo) (answ
     → unwritten new ≡ unwritten (changed {A = A} at w (event.Close file) answer)
 unfolding changed without_areas
 close_done A at v w new file answer over objects areas access_pins same kept none answered new_is closed_is_more
-    areas_are seen memory_is objects_are attachments_are allowed_is o r p pins =
+    tracked_is areas_are seen memory_is objects_are attachments_are allowed_is o r p pins =
     let kept_v = subst (λ (x : World). IsKept at x) (sym same) kept in
     let none_v = subst (λ (x : World). refusal {A = A} x (event.Close file) ≡ None) (sym same) none in
     let left = closed v file in
@@ -561,6 +602,7 @@ close_done A at v w new file answer over objects areas access_pins same kept non
       attachments = new.attachments;
       allowed = new.allowed;
       closed = new.closed;
+      tracked = new.tracked;
       pins = new.pins;
     })) objects_are
     ∙ ap (λ (ms : List MemoryObject). unwritten (record v {
@@ -570,6 +612,7 @@ close_done A at v w new file answer over objects areas access_pins same kept non
       attachments = new.attachments;
       allowed = new.allowed;
       closed = new.closed;
+      tracked = new.tracked;
       pins = new.pins;
     })) memory_left
     ∙ ap (λ (rs : List Area). unwritten (record v {
@@ -579,6 +622,7 @@ close_done A at v w new file answer over objects areas access_pins same kept non
       attachments = new.attachments;
       allowed = new.allowed;
       closed = new.closed;
+      tracked = new.tracked;
       pins = new.pins;
     })) areas_are
     ∙ ap (λ (rows : List Attachment). unwritten (record v {
@@ -588,6 +632,7 @@ close_done A at v w new file answer over objects areas access_pins same kept non
       attachments = rows;
       allowed = new.allowed;
       closed = new.closed;
+      tracked = new.tracked;
       pins = new.pins;
     })) attachments_are
     ∙ ap (λ (rows : List AllowedRanges). unwritten (record v {
@@ -597,6 +642,7 @@ close_done A at v w new file answer over objects areas access_pins same kept non
       attachments = left.attachments;
       allowed = rows;
       closed = new.closed;
+      tracked = new.tracked;
       pins = new.pins;
     })) allowed_is
     ∙ ap (λ (files : List FileNo). unwritten (record v {
@@ -606,8 +652,19 @@ close_done A at v w new file answer over objects areas access_pins same kept non
       attachments = left.attachments;
       allowed = left.allowed;
       closed = files;
+      tracked = new.tracked;
       pins = new.pins;
     })) closed_is_more
+    ∙ ap (λ (rows : List TrackedTable). unwritten (record v {
+      objects = left.objects;
+      memory = left.memory;
+      areas = left.areas;
+      attachments = left.attachments;
+      allowed = left.allowed;
+      closed = left.closed;
+      tracked = rows;
+      pins = new.pins;
+    })) tracked_is
     ∙ ap (λ (ps : List Pin). unwritten (record left { pins = ps })) pins_are
     ∙ ap (λ (x : World). unwritten x) (sym (closed_is A at v file kept_v none_v))
     ∙ ap (λ (x : World). unwritten (settle x (closed x file))) same

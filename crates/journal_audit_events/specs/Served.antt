@@ -23,4 +23,6 @@ needs_none (event.AccessUnpin file id request) = false
 needs_none (event.UserMap user va) = false
 needs_none (event.Bind file device) = false
 needs_none (event.AccessCreate file) = false
+needs_none (event.DeviceWrite device iova bytes) = false
+needs_none (event.DirtyEnable file hwpt on) = false
 needs_none e = is_served e

@@ -13,7 +13,7 @@ ghost use Rattle.journal_audit_world.specs.Unwritten.{unwritten};
 
 use iofd_words::{Cause, FileNo, NoMemory, Object, Reply};
 use journal_audit_index::Numbers;
-use journal_audit_world::{World, allowed, areas, attachments, keeping, objects, over};
+use journal_audit_world::{World, allowed, areas, attachments, keeping, objects, over, tracked};
 use std::alloc::Allocator;
 
 /// Why it is refused, if it is.
@@ -65,6 +65,7 @@ pub fn change<A: Allocator + Copy>(
     objects::remove_of_file(&mut world.objects, file);
     attachments::remove_of_file(&mut world.attachments, file);
     allowed::remove_of_file(&mut world.allowed, file);
+    tracked::stop_file(&mut world.tracked, file);
     keeping::keep_pinned(
         alloc,
         &mut world.pins,

@@ -16,7 +16,7 @@ ghost use Rattle.journal_audit_world.specs.Unwritten.{unwritten};
 
 use iofd_words::{Cause, FileNo, NoMemory, ObjId, ObjectKind, Reply};
 use journal_audit_index::Numbers;
-use journal_audit_world::{World, allowed, areas, attachments, keeping, objects, over};
+use journal_audit_world::{World, allowed, areas, attachments, keeping, objects, over, tracked};
 use std::alloc::Allocator;
 
 /// Why it is refused, if it is.
@@ -115,6 +115,7 @@ pub fn change<A: Allocator + Copy>(
     keeping::keep_used(alloc, &mut world.memory, &world.areas, &asked)?;
     objects::remove(&mut world.objects, file, id);
     allowed::remove_of(&mut world.allowed, file, id);
+    tracked::stop(&mut world.tracked, file, id);
     keeping::keep_pinned(
         alloc,
         &mut world.pins,

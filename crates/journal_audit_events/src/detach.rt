@@ -1,10 +1,12 @@
 //! Detach: a device's attachment ends, and with its last device an automatic page table goes.
 
-ghost use Rattle.std.specs.Prelude.{◌≡◌, ℕ, None, Some, IfOk};
+ghost use Rattle.std.specs.Prelude.{◌≡◌, ℕ, ◌&&◌, not, if◌then◌else◌, None, Some, IfOk};
+ghost use Rattle.std.specs.List.{list_any};
 ghost use Rattle.iofd_words.specs.After.{changed};
 ghost use Rattle.iofd_words.specs.Checks.{detach_checks, refusal};
+ghost use Rattle.iofd_words.specs.Dirty.{without_tracked};
 ghost use Rattle.iofd_words.specs.FirstTrue.{first_true};
-ghost use Rattle.iofd_words.specs.Objects.{kind_of};
+ghost use Rattle.iofd_words.specs.Objects.{is_automatic, is_object, kind_of};
 ghost use Rattle.iofd_words.specs.View.{view};
 ghost use Rattle.iofd_words.specs.declared.event.Event.TheVariants as event;
 ghost use Rattle.journal_audit_events.specs.Asked.{over_space, space_left};
@@ -12,9 +14,10 @@ ghost use Rattle.journal_audit_index.specs.Keys.{has_number};
 ghost use Rattle.journal_audit_world.specs.Kept.{IsKept};
 ghost use Rattle.journal_audit_world.specs.Unwritten.{unwritten};
 
-use iofd_words::{Cause, DeviceNo, FileNo, NoMemory, ObjId, ObjectKind, Reply};
+use iofd_words::{Cause, DeviceNo, FileNo, NoMemory, ObjId, Object, ObjectKind, Reply};
 use journal_audit_index::Numbers;
-use journal_audit_world::{World, areas, attachments, keeping, objects, over};
+use journal_audit_world::tracked::TrackedRow;
+use journal_audit_world::{World, areas, attachments, keeping, objects, over, tracked};
 use std::alloc::Allocator;
 
 /// Why it is refused, if it is.
@@ -66,6 +69,36 @@ fn numbers_left<A: Allocator + Copy>(
     Ok(numbers)
 }
 
+// Whether an automatic page table of this name is there that goes with its last device.
+fn goes(objects: &[Object], file: FileNo, hwpt: ObjId, is_used: bool) -> bool
+    ensures { result ≡ list_any (λ object. is_object file hwpt object && is_automatic object.kind && not is_used)
+        objects.now }
+{
+    objects.iter().any(|object| {
+        object.file.0 == file.0
+            && object.id.0 == hwpt.0
+            && objects::is_automatic(object.kind)
+            && !is_used
+    })
+}
+
+// It isn't tracked any more then.
+fn stop_left<A: Allocator>(
+    rows: &mut Vec<TrackedRow<A>, A>,
+    objects: &[Object],
+    file: FileNo,
+    hwpt: ObjId,
+    is_used: bool,
+)
+    ensures { rows.new.items
+        ≡ (if list_any (λ object. is_object file hwpt object && is_automatic object.kind && not is_used) objects.now
+        then without_tracked file hwpt rows.old.items else rows.old.items) }
+{
+    if goes(objects, file, hwpt, is_used) {
+        tracked::stop(rows, file, hwpt);
+    }
+}
+
 /// What comes of it, where nothing refuses it, at this position. Its only error is want of memory.
 #[tactic(auto, unfolding(iofd_words::specs::After::changed))]
 pub fn change<A: Allocator + Copy>(
@@ -90,6 +123,7 @@ pub fn change<A: Allocator + Copy>(
     attachments::remove(&mut world.attachments, device);
     let is_used = attachments::has_device_on(&world.attachments, file, hwpt);
     let asked = numbers_left(alloc, world, file, hwpt, is_used)?;
+    stop_left(&mut world.tracked, &world.objects, file, hwpt, is_used);
     objects::remove_automatic(&mut world.objects, file, hwpt, is_used);
     areas::pay(&mut world.areas, device);
     keeping::keep_pinned(

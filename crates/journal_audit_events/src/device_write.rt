@@ -1,6 +1,8 @@
-//! DeviceWrite: a device writes memory. The world after it is the same but for what was written.
+//! DeviceWrite: a device writes memory. The world after it is the same but for what was written, and for the mark of
+//! the page, where the device's page table is tracked.
 
-ghost use Rattle.std.specs.Prelude.{◌≡◌, Some, None, false, ◌&&◌};
+ghost use Rattle.std.specs.Prelude.{◌≡◌, Some, None, false, ◌&&◌, ℕ, List, IfOk};
+ghost use Rattle.iofd_words.specs.After.{changed};
 ghost use Rattle.iofd_words.specs.Answers.{Answers};
 ghost use Rattle.iofd_words.specs.Checks.{device_write_checks, is_interrupt};
 ghost use Rattle.iofd_words.specs.Files.{device_of};
@@ -11,12 +13,14 @@ ghost use Rattle.iofd_words.specs.declared.event.Event.TheVariants as event;
 ghost use Rattle.iofd_words.specs.declared.fault.AccessKind.TheVariants as access;
 ghost use Rattle.journal_audit_events.specs.Outcomes.{TellsFault, TellsPass};
 ghost use Rattle.journal_audit_world.specs.Decides.{Decides};
+ghost use Rattle.journal_audit_world.specs.Unwritten.{unwritten};
 
 use crate::outcomes::outcomes_of;
 use iofd_words::{
-    AccessKind, Burst, Cause, Config, DeviceNo, Fault, FaultReason, FrameNo, Iova, Reply, SourceId,
+    AccessKind, Burst, Cause, Config, DeviceNo, Fault, FaultReason, FrameNo, Iova, NoMemory, Reply,
+    SourceId,
 };
-use journal_audit_world::{World, objects, pages};
+use journal_audit_world::{World, attachments, objects, pages, tracked};
 use std::alloc::Allocator;
 
 /// Why it is refused, if it is.
@@ -117,4 +121,25 @@ fn source_of<A: Allocator>(config: &Config<A>, device: DeviceNo) -> SourceId
         Some(settings) => settings.source(),
         None => SourceId(0),
     }
+}
+
+/// What comes of it. Its only error is want of memory.
+#[tactic(auto, unfolding(iofd_words::specs::After::changed))]
+pub fn change<A: Allocator>(
+    world: &mut World<A>,
+    device: DeviceNo,
+    iova: Iova,
+    reply: Reply,
+) -> Result<(), NoMemory>
+    ensures { IfOk result (λ _. (at : ℕ) (bytes : List ℕ) →
+        unwritten world.new ≡ unwritten (changed {A = A} at world.old (event.DeviceWrite device iova bytes) reply)) }
+{
+    let Reply::Passed(_) = reply else {
+        return Ok(());
+    };
+    let Some(attachment) = attachments::attachment_of(&world.attachments, device) else {
+        return Ok(());
+    };
+    let (file, hwpt) = (attachment.file, attachment.hwpt);
+    tracked::mark(&mut world.tracked, file, hwpt, pages::page_of(iova.0))
 }

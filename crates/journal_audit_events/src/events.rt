@@ -12,7 +12,7 @@ ghost use Rattle.journal_audit_world.specs.Unwritten.{unwritten};
 use crate::answers::{is_done, is_free_frame, is_fresh_id};
 use crate::{
     access_attach, access_create, access_detach, access_unpin, access_write, allow_iovas, close,
-    destroy, detach, device_write, devices, ioas_alloc, user_memory,
+    destroy, detach, device_write, devices, dirty_clear, dirty_enable, ioas_alloc, user_memory,
 };
 use iofd_words::{Cause, Event, NoMemory, Reply};
 use journal_audit_world::World;
@@ -47,25 +47,35 @@ pub fn refusal<A: Allocator>(world: &World<A>, event: &Event<A>) -> Option<Cause
         Event::AccessWrite(file, id, iova, bytes) => {
             access_write::refusal(world, *file, *id, *iova, *bytes)
         }
+        Event::DirtyEnable(file, hwpt, _) => dirty_enable::refusal(world, *file, *hwpt),
+        Event::DirtyClear(file, request) => dirty_clear::refusal(world, *file, *request),
         _ => unreachable!(),
     }
 }
 
-/// Whether the answer is a lawful one, where nothing refuses the event.
+/// Whether the answer is a lawful one, where nothing refuses the event. Its only error is want of memory.
 #[tactic(auto, unfolding(iofd_words::specs::Answers::Answers))]
-pub fn may_answer<A: Allocator>(world: &World<A>, event: &Event<A>, reply: Reply) -> bool
+pub fn may_answer<A: Allocator + Copy>(
+    alloc: A,
+    world: &World<A>,
+    event: &Event<A>,
+    reply: Reply,
+) -> Result<bool, NoMemory>
     requires { is_served event.now ≡ true }
-    ensures { Decides result (Answers world.now event.now reply) }
+    ensures { IfOk result (λ may. Decides may (Answers world.now event.now reply)) }
 {
     match event {
         Event::IoasAlloc(file) | Event::AccessCreate(file) | Event::Bind(file, _) => {
-            is_fresh_id(world, *file, reply)
+            Ok(is_fresh_id(world, *file, reply))
         }
-        Event::UserMap(_, _) => is_free_frame(world, reply),
+        Event::UserMap(_, _) => Ok(is_free_frame(world, reply)),
         Event::DeviceWrite(device, iova, bytes) => {
-            device_write::may_answer(world, *device, *iova, *bytes, reply)
+            Ok(device_write::may_answer(world, *device, *iova, *bytes, reply))
         }
-        _ => is_done(reply),
+        Event::DirtyClear(file, request) => {
+            dirty_clear::may_answer(alloc, world, *file, *request, reply)
+        }
+        _ => Ok(is_done(reply)),
     }
 }
 
@@ -97,6 +107,10 @@ pub fn change<A: Allocator + Copy>(
         Event::UserMap(user, va) => user_memory::map_change(world, *user, *va, reply),
         Event::Bind(file, device) => devices::bind_change(world, *file, *device, reply),
         Event::AccessCreate(file) => access_create::change(world, *file, reply),
+        Event::DeviceWrite(device, iova, _) => device_write::change(world, *device, *iova, reply),
+        Event::DirtyEnable(file, hwpt, on) => {
+            dirty_enable::change(alloc, world, *file, *hwpt, *on, reply)
+        }
         _ => {
             change_in_place(at, world, event, reply);
             Ok(())
@@ -117,8 +131,8 @@ fn change_in_place<A: Allocator>(at: u64, world: &mut World<A>, event: &Event<A>
             access_attach::change(world, *file, *id, *ioas, reply)
         }
         Event::AccessDetach(file, id) => access_detach::change(world, *file, *id, reply),
+        Event::DirtyClear(file, request) => dirty_clear::change(world, *file, *request, reply),
         Event::UserWrite(_, _, _) => {}
-        Event::DeviceWrite(_, _, _) => {}
         Event::AccessWrite(_, _, _, _) => {}
         _ => unreachable!(),
     }

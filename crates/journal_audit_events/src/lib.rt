@@ -13,6 +13,8 @@ pub mod destroy;
 pub mod detach;
 pub mod device_write;
 pub mod devices;
+pub mod dirty_clear;
+pub mod dirty_enable;
 pub mod events;
 pub mod gone;
 pub mod ioas_alloc;

@@ -35,6 +35,6 @@ pub fn may_answer<A: Allocator + Copy>(
         Event::HwptAlloc(file, _) => Ok(is_fresh_id(world, *file, reply)),
         Event::Attach(device, pt_id) => Ok(is_attached(world, *device, *pt_id, reply)),
         Event::AccessPin(_, _, _) => Ok(is_done(reply)),
-        _ => Ok(events::may_answer(world, event, reply)),
+        _ => events::may_answer(alloc, world, event, reply),
     }
 }

@@ -162,6 +162,8 @@ same_changes at w (event.AccessDetach file id) reply.Done = refl
 same_changes at w (event.AccessPin file id request) reply.Done = refl
 same_changes at w (event.AccessUnpin file id request) reply.Done = refl
 same_changes at w (event.AccessWrite file id iova bytes) reply.Done = refl
+same_changes at w (event.DirtyEnable file hwpt on) reply.Done = refl
+same_changes at w (event.DirtyClear file request) (reply.Dirty words) = refl
 same_changes at w e answer = refl
 
 changes_alike : {A : Type 0} → (at : ℕ) (w v : World) (e : Event A) (answer : Reply) → unwritten w ≡ unwritten v
@@ -197,6 +199,8 @@ answers_to w (event.AccessDetach file id) answer is = is
 answers_to w (event.AccessPin file id request) answer is = is
 answers_to w (event.AccessUnpin file id request) answer is = is
 answers_to w (event.AccessWrite file id iova bytes) answer is = is
+answers_to w (event.DirtyEnable file hwpt on) answer is = is
+answers_to w (event.DirtyClear file request) answer is = is
 
 answers_from : {A : Type 0} → (w : World) (e : Event A) (answer : Reply) → Answers (unwritten w) e answer
     → Answers w e answer
@@ -224,6 +228,8 @@ answers_from w (event.AccessDetach file id) answer is = is
 answers_from w (event.AccessPin file id request) answer is = is
 answers_from w (event.AccessUnpin file id request) answer is = is
 answers_from w (event.AccessWrite file id iova bytes) answer is = is
+answers_from w (event.DirtyEnable file hwpt on) answer is = is
+answers_from w (event.DirtyClear file request) answer is = is
 
 -- ---- which frames may move
 

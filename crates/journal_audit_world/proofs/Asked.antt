@@ -1,6 +1,6 @@
 -- Pins of memory objects that aren't asked for are of pages that are to be pinned still, where what goes is over those
 -- that are.
-use Rattle.std.proofs.Common.{◌≡◌, ℕ, Bool, true, false, ◌&&◌, ◌||◌, not, eqb, List, refl, sym, ap, ◌∙◌}
+use Rattle.std.proofs.Common.{◌≡◌, ℕ, Bool, true, false, ◌&&◌, ◌||◌, not, eqb, List, refl, sym, ◌∙◌}
 use Rattle.std.specs.List.{filter, list_all, list_any}
 use Rattle.iofd_rows.proofs.Bools.{and_true, both_true, not_false}
 use Rattle.iofd_rows.proofs.Found.{all_weaker}
@@ -12,7 +12,6 @@ use Rattle.iofd_words.specs.Pins.{ObjectPage, is_accessed, is_page, is_pinned, i
 use Rattle.iofd_words.specs.World.{World}
 use Rattle.iofd_words.specs.declared.rows.AccessPin.{AccessPin}
 use Rattle.iofd_words.specs.declared.rows.Area.{Area}
-use Rattle.iofd_words.specs.declared.rows.MemoryObject.{MemoryObject}
 use Rattle.iofd_words.specs.declared.rows.Object.{Object}
 use Rattle.iofd_words.specs.declared.rows.Pin.{Pin}
 use Rattle.journal_audit_index.specs.Keys.{has_number}

@@ -13,3 +13,5 @@ pub mod PoolFew
 pub mod Rising
 pub mod Settling
 pub mod Swapped
+pub mod TrackedPages
+pub mod TrackedWords

@@ -1,4 +1,5 @@
 pub mod Decides
 pub mod Kept
 pub mod Over
+pub mod Tracked
 pub mod Unwritten

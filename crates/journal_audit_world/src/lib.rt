@@ -14,6 +14,7 @@ pub mod over;
 pub mod pages;
 pub mod pins;
 pub mod tables;
+pub mod tracked;
 pub mod usable;
 mod world;
 

@@ -7,7 +7,7 @@ ghost use Rattle.iofd_words.specs.Objects.{access_ioas, access_ioas_of, binding_
 ghost use Rattle.iofd_words.specs.Objects.{has_access};
 ghost use Rattle.iofd_words.specs.Objects.{has_access_to, has_hwpt, has_ioas, is_access, is_access_to, is_automatic};
 ghost use Rattle.iofd_words.specs.Objects.{is_bound_as, is_bound_device, is_fresh, is_full, is_hwpt, is_hwpt_over};
-ghost use Rattle.iofd_words.specs.Objects.{is_object, kind_of};
+ghost use Rattle.iofd_words.specs.Objects.{is_hwpt_under, is_object, kind_of};
 ghost use Rattle.iofd_words.specs.Objects.{objects_of, with_access, with_object, without_device_object, without_object};
 ghost use Rattle.iofd_words.specs.declared.rows.ObjectKind.TheVariants as kind;
 
@@ -123,6 +123,16 @@ pub fn has_ioas(objects: &[Object], file: FileNo, id: ObjId) -> bool
     match kind_of(objects, file, id) {
         Some(ObjectKind::Ioas) => true,
         _ => false,
+    }
+}
+
+/// Whether the file has a page table of this id.
+pub fn is_hwpt_under(objects: &[Object], file: FileNo, id: ObjId) -> bool
+    ensures { result ≡ is_hwpt_under objects.now file id }
+{
+    match kind_of(objects, file, id) {
+        Some(kind) => is_hwpt(kind),
+        None => false,
     }
 }
 

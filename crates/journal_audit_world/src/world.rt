@@ -5,6 +5,7 @@ ghost use Rattle.iofd_words.specs.Files.{is_open};
 ghost use Rattle.iofd_words.specs.Frames.{free_count, is_free};
 ghost use Rattle.iofd_words.specs.World.{opening};
 
+use crate::tracked::TrackedRow;
 use crate::{files, frames};
 use iofd_words::{
     AccessPin, Area, Attachment, Config, FileNo, FrameNo, IovaRange, MemoryObject, ObjId, Object,
@@ -44,6 +45,7 @@ pub struct World<A: Allocator = Global> {
     pub attachments: Vec<Attachment, A>,
     pub access_pins: Vec<AccessPin, A>,
     pub table_frames: Vec<TableFrame, A>,
+    pub tracked: Vec<TrackedRow<A>, A>,
 }
 
 impl<A: Allocator> Model for World<A> {
@@ -64,6 +66,7 @@ impl<A: Allocator> Model for World<A> {
       attachments = w.attachments.items;
       access_pins = w.access_pins.items;
       table_frames = w.table_frames.items;
+      tracked = w.tracked.items;
       writes = [];
     } };
 }
@@ -85,6 +88,7 @@ impl<A: Allocator + Copy> World<A> {
             attachments: Vec::new(alloc),
             access_pins: Vec::new(alloc),
             table_frames: Vec::new(alloc),
+            tracked: Vec::new(alloc),
         }
     }
 }

@@ -4,14 +4,16 @@ use Rattle.std.proofs.Common.{◌∙◌, ◌≤◌, suc, append_assoc, Result, O
 use Rattle.std.proofs.lemmas.Bool.{le-leb}
 use Rattle.iofd_words.specs.Settings.{is_between}
 use Rattle.std.specs.Int.{Width, w8, w16, w32, w64, to_le_bytes}
-use Rattle.std.specs.List.{AllByRecursion}
+use Rattle.std.specs.List.{AllByRecursion, slice_index}
 use Rattle.iofd_words.specs.Bounds.{Bounds}
 use Rattle.iofd_words.specs.declared.numbers.FrameNo.{FrameNo}
 use Rattle.journal_audit_bytes.specs.Format.{ElementsFit, FitWidths, ListFits, burst, elements_spelled, entries}
 use Rattle.journal_audit_bytes.specs.Format.{frames, list_spelled, spelled}
 use Rattle.journal_audit_bytes.specs.Head.{CountedFit, all_spelled, counted}
 use Rattle.journal_audit_bytes.specs.Reading.{of_frames, pairs, singles}
-use Rattle.journal_audit_writing.specs.Texts.{ByteFits, FrameFits, RangeFits, byte_text, frame_text, range_text}
+use Rattle.journal_audit_writing.specs.Texts.{ByteFits, FrameFits, RangeFits, byte_text, frame_text, numbers_text}
+use Rattle.journal_audit_writing.specs.Texts.{range_text}
+use Rattle.journal_audit_writing.specs.declared.number.Number.TheVariants.{U8, U64}
 use Rattle.journal_audit_writing.specs.Writing.{Appends}
 use Rattle.journal_audit_writing.proofs.Appended.{keeps_then, then}
 
@@ -131,3 +133,14 @@ head_appended (Ok x) old a b c d e f new m p u l n v q h1 h2 h3 h4 h5 h6 h7 =
 head_appended (Err e') old a b c d e f new m p u l n v q h1 h2 h3 h4 h5 h6 h7 =
     keeps_then old a new (m, h1) (keeps_then a b new (p, h2) (keeps_then b c new (u, h3)
     (keeps_then c d new (l, h4) (keeps_then d e new (n, h5) (keeps_then e f new (v, h6) h7)))))
+
+-- the tag and the words of a report
+pub words_text : (words : List ℕ) → length words ≡ 4
+    → numbers_text (U8 0x09 ∷ U64 (slice_index words 0) ∷ U64 (slice_index words 1) ∷ U64 (slice_index words 2)
+    ∷ U64 (slice_index words 3) ∷ []) ≡ numbers_text (U8 0x09 ∷ map (λ word. U64 word) words)
+words_text (a ∷ b ∷ c ∷ d ∷ []) four = refl
+words_text [] four = absurd cc
+words_text (a ∷ []) four = absurd cc
+words_text (a ∷ b ∷ []) four = absurd cc
+words_text (a ∷ b ∷ c ∷ []) four = absurd cc
+words_text (a ∷ b ∷ c ∷ d ∷ e ∷ more) four = absurd (omega (arith, four))

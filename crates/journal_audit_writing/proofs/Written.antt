@@ -1,6 +1,6 @@
 -- Which records have a spelling, and that what is written of them is it.
 use Rattle.std.proofs.Common.{◌≡◌, ℕ, ◌^◌, ◌<◌, Bool, true, List, [], ◌∷◌, length, Option, Some, None}
-use Rattle.std.proofs.Common.{refl, sym, ap, subst, ◌∙◌, suc, false}
+use Rattle.std.proofs.Common.{refl, sym, ap, subst, ◌∙◌, suc, false, arith}
 use Rattle.std.specs.Prelude.{nat_lt, option_map}
 use Rattle.std.proofs.lemmas.Bool.{lt-ltb}
 use Rattle.std.specs.Int.{w8, w16, w32, w64}
@@ -27,15 +27,17 @@ use Rattle.iofd_words.specs.declared.refusal.Errno.TheVariants.{EMSGSIZE, EOPNOT
 use Rattle.iofd_words.specs.declared.reply.Reply.{Reply}
 use Rattle.iofd_words.specs.declared.reply.Reply.TheVariants as reply
 use Rattle.journal_audit_bytes.specs.Format.{Row, SpellsTagged, TailFits, access, always, burst, entries}
-use Rattle.journal_audit_bytes.specs.Format.{event_rows, kept, pin, plain, reply_rows}
+use Rattle.journal_audit_bytes.specs.Format.{events_of, is_switch, kept, pin, plain, replies_of}
 use Rattle.journal_audit_bytes.specs.Journal.{SpellsRecord}
 use Rattle.journal_audit_bytes.specs.Reading.{copy_numbers, map_numbers, of_frames, pairs, tagged_event, tagged_reply}
-use Rattle.journal_audit_bytes.specs.Reading.{purpose_number}
+use Rattle.journal_audit_bytes.specs.Reading.{purpose_number, switch_number}
 use Rattle.journal_audit_bytes.specs.Replies.{cause_by, errno_by, fault_by, fault_of, reason_by, reply_of, told}
+use Rattle.journal_audit_bytes.specs.declared.version.Version.TheVariants.{Two}
 use Rattle.journal_audit_bytes.specs.declared.spelled.SpelledReply.{SpelledReply}
 use Rattle.journal_audit_bytes.specs.declared.spelled.SpelledReply.TheVariants as spelled
 use Rattle.journal_audit_bytes.proofs.Fields.{some_is}
-use Rattle.journal_audit_writing.specs.Texts.{IsOwnReply, IsSpelt, ListOfFits, NumbersFit, RecordFits, event_numbers}
+use Rattle.journal_audit_writing.specs.Texts.{HasWords, IsOwnReply, IsSpelt, ListOfFits, NumbersFit, RecordFits}
+use Rattle.journal_audit_writing.specs.Texts.{event_numbers}
 use Rattle.journal_audit_writing.specs.Texts.{event_text, is_kept_event, numbers_text, record_text, reply_numbers}
 
 -- ---- replies
@@ -94,6 +96,7 @@ cause_again cause.Cross = refl
 cause_again cause.InterruptRange = refl
 cause_again cause.Unattached = refl
 cause_again cause.Pending = refl
+cause_again cause.Tracking = refl
 
 count_pairs : (ranges : List Bounds) → length ranges ≡ length (pairs ranges)
 count_pairs [] = refl
@@ -107,9 +110,31 @@ is_purpose_number : (write : Bool) → nat_lt (purpose_number write) 2 ≡ true
 is_purpose_number true = refl
 is_purpose_number false = refl
 
-reply_spells : (r : Reply) → NumbersFit (reply_numbers r)
-    → SpellsTagged reply_rows (tagged_reply (told r)) (numbers_text (reply_numbers r))
-reply_spells reply.Done fits = record {
+is_switch_number : (on : Bool) → nat_lt (switch_number on) 2 ≡ true
+is_switch_number true = refl
+is_switch_number false = refl
+
+words_spell : (words : List ℕ) → NumbersFit (reply_numbers (reply.Dirty words)) → length words ≡ 4
+    → SpellsTagged (replies_of Two) (tagged_reply (spelled.Dirty words))
+    (numbers_text (reply_numbers (reply.Dirty words)))
+words_spell (a ∷ b ∷ c ∷ d ∷ []) fits four = record {
+  row = plain 0x09 (w64 ∷ w64 ∷ w64 ∷ w64 ∷ []);
+  known = refl;
+  tag_fits = fits.0;
+  numbers_fit = fits.1;
+  list_fits = refl;
+  allowed = refl;
+  bytes_are = refl;
+}
+words_spell [] fits four = absurd cc
+words_spell (a ∷ []) fits four = absurd cc
+words_spell (a ∷ b ∷ []) fits four = absurd cc
+words_spell (a ∷ b ∷ c ∷ []) fits four = absurd cc
+words_spell (a ∷ b ∷ c ∷ d ∷ e ∷ more) fits four = absurd (omega (arith, four))
+
+reply_spells : (r : Reply) → NumbersFit (reply_numbers r) → HasWords r
+    → SpellsTagged (replies_of Two) (tagged_reply (told r)) (numbers_text (reply_numbers r))
+reply_spells reply.Done fits four = record {
   row = plain 0x00 [];
   known = refl;
   tag_fits = fits.0;
@@ -118,7 +143,7 @@ reply_spells reply.Done fits = record {
   allowed = refl;
   bytes_are = refl;
 }
-reply_spells (reply.Id id) fits = record {
+reply_spells (reply.Id id) fits four = record {
   row = plain 0x01 (w32 ∷ []);
   known = refl;
   tag_fits = fits.0;
@@ -127,7 +152,7 @@ reply_spells (reply.Id id) fits = record {
   allowed = refl;
   bytes_are = refl;
 }
-reply_spells (reply.Iova iova) fits = record {
+reply_spells (reply.Iova iova) fits four = record {
   row = plain 0x02 (w64 ∷ []);
   known = refl;
   tag_fits = fits.0;
@@ -136,7 +161,7 @@ reply_spells (reply.Iova iova) fits = record {
   allowed = refl;
   bytes_are = refl;
 }
-reply_spells (reply.Bytes count) fits = record {
+reply_spells (reply.Bytes count) fits four = record {
   row = plain 0x03 (w64 ∷ []);
   known = refl;
   tag_fits = fits.0;
@@ -145,7 +170,7 @@ reply_spells (reply.Bytes count) fits = record {
   allowed = refl;
   bytes_are = refl;
 }
-reply_spells (reply.Pending errno) fits = record {
+reply_spells (reply.Pending errno) fits four = record {
   row = plain 0x04 (w8 ∷ []);
   known = refl;
   tag_fits = fits.0;
@@ -154,7 +179,7 @@ reply_spells (reply.Pending errno) fits = record {
   allowed = refl;
   bytes_are = refl;
 }
-reply_spells (reply.Frame frame) fits = record {
+reply_spells (reply.Frame frame) fits four = record {
   row = plain 0x05 (w32 ∷ []);
   known = refl;
   tag_fits = fits.0;
@@ -163,7 +188,7 @@ reply_spells (reply.Frame frame) fits = record {
   allowed = refl;
   bytes_are = refl;
 }
-reply_spells (reply.Passed frame) fits = record {
+reply_spells (reply.Passed frame) fits four = record {
   row = plain 0x06 (w32 ∷ []);
   known = refl;
   tag_fits = fits.0;
@@ -172,7 +197,7 @@ reply_spells (reply.Passed frame) fits = record {
   allowed = refl;
   bytes_are = refl;
 }
-reply_spells (reply.Fault fault) fits = record {
+reply_spells (reply.Fault fault) fits four = record {
   row = plain 0x07 (w8 ∷ []);
   known = refl;
   tag_fits = fits.0;
@@ -181,7 +206,7 @@ reply_spells (reply.Fault fault) fits = record {
   allowed = refl;
   bytes_are = refl;
 }
-reply_spells (reply.Refused refusal) fits = record {
+reply_spells (reply.Refused refusal) fits four = record {
   row = plain 0x08 (w8 ∷ []);
   known = refl;
   tag_fits = fits.0;
@@ -190,6 +215,7 @@ reply_spells (reply.Refused refusal) fits = record {
   allowed = refl;
   bytes_are = refl;
 }
+reply_spells (reply.Dirty words) fits four = words_spell words fits four
 
 module _ {A : Type 0} where
   told_gives : (s : Settings) (e : Event A) (r : Reply) → IsOwnReply s e r → reply_of s e (told r) ≡ Some r
@@ -205,6 +231,7 @@ module _ {A : Type 0} where
       ap (λ (o : Option FaultReason). option_map (λ f. reply.Fault f)
       (elim o [ None ↦ None | Some reason ↦ fault_of s e reason ])) (reason_again fault.reason)
       ∙ ap (λ (o : Option Fault). option_map (λ f. reply.Fault f) o) own
+  told_gives s e (reply.Dirty words) own = refl
   told_gives s e (reply.Refused refusal) own =
       ap (λ (o : Option Cause). option_map (λ c. reply.Refused (record { cause = c })) o) (cause_again refusal.cause)
 
@@ -263,6 +290,7 @@ module _ {A : Type 0} where
   own_fault s e f (spelled.Frame frame) is = absurd cc
   own_fault s e f (spelled.Passed frame) is = absurd cc
   own_fault s e f (spelled.Fault number) is = fault_own s e number f is
+  own_fault s e f (spelled.Dirty words) is = absurd cc
   own_fault s e f (spelled.Refused number) is = by_cause (cause_by number) is
     where
       by_cause : (o : Option Cause)
@@ -279,7 +307,7 @@ module _ {A : Type 0} where
   -- ---- events
 
   event_spells : (e : Event A) → NumbersFit (event_numbers e) → ListOfFits e → is_kept_event e ≡ true
-      → SpellsTagged event_rows (tagged_event e) (event_text e)
+      → SpellsTagged (events_of Two) (tagged_event e) (event_text e)
   event_spells (event.Close file) fits list always_kept = record {
     row = plain 0x01 (w16 ∷ []);
     known = refl;
@@ -487,9 +515,27 @@ module _ {A : Type 0} where
     allowed = refl;
     bytes_are = refl;
   }
+  event_spells (event.DirtyEnable file hwpt on) fits list always_kept = record {
+    row = record { tag = 0xf0; numbers = w16 ∷ w32 ∷ w8 ∷ []; list = None; allows = is_switch };
+    known = refl;
+    tag_fits = fits.0;
+    numbers_fit = fits.1;
+    list_fits = list;
+    allowed = is_switch_number on;
+    bytes_are = refl;
+  }
+  event_spells (event.DirtyClear file request) fits list always_kept = record {
+    row = plain 0xf1 (w16 ∷ w32 ∷ w64 ∷ w64 ∷ []);
+    known = refl;
+    tag_fits = fits.0;
+    numbers_fit = fits.1;
+    list_fits = list;
+    allowed = refl;
+    bytes_are = refl;
+  }
 
   -- the flags of a record that is spelled are known, and its ranges can be counted
-  event_kept : (e : Event A) (text : List ℕ) → SpellsTagged event_rows (tagged_event e) text
+  event_kept : (e : Event A) (text : List ℕ) → SpellsTagged (events_of Two) (tagged_event e) text
       → is_kept_event e ≡ true
   event_kept (event.Map file m) text t =
       let same : kept 0x85 (w16 ∷ w32 ∷ w32 ∷ w64 ∷ w64 ∷ w64 ∷ []) ≡ t.row = some_is _ t.row t.known in
@@ -508,7 +554,7 @@ module _ {A : Type 0} where
   -- ---- records
 
   -- what is written of such a record is its spelling
-  pub record_spells : (s : Settings) (r : Record A) → IsSpelt s r → RecordFits r → SpellsRecord s r (record_text r)
+  pub record_spells : (s : Settings) (r : Record A) → IsSpelt s r → RecordFits r → SpellsRecord Two s r (record_text r)
   record_spells s r spelt fits = record {
     reply = told r.reply;
     gives = told_gives s r.event r.reply spelt.reply;
@@ -518,7 +564,7 @@ module _ {A : Type 0} where
       event = event_text r.event;
       event_is = event_spells r.event fits.event fits.list spelt.event;
       reply = numbers_text (reply_numbers r.reply);
-      reply_is = reply_spells r.reply fits.reply;
+      reply_is = reply_spells r.reply fits.reply fits.words;
       taken_fit = fits.taken;
       given_fit = fits.given;
       bytes_are = refl;
@@ -526,7 +572,7 @@ module _ {A : Type 0} where
   }
 
   -- a record that some bytes spell is such a one
-  pub is_spelt : (s : Settings) (r : Record A) (bytes : List ℕ) → SpellsRecord s r bytes → IsSpelt s r
+  pub is_spelt : (s : Settings) (r : Record A) (bytes : List ℕ) → SpellsRecord Two s r bytes → IsSpelt s r
   is_spelt s r bytes sp = record {
     pass = sp.spells.pass;
     event = event_kept r.event sp.spells.event sp.spells.event_is;

@@ -1,13 +1,14 @@
--- The numbers and lists that stand for an event and a reply, and which records have a spelling: from a record's side,
--- what `journal_audit_bytes` says from the side of the bytes.
+-- The numbers and lists that stand for an event and a reply, and which records have a spelling in version 2: from a
+-- record's side, what `journal_audit_bytes` says from the side of the bytes.
 use Rattle.std.specs.Prelude.{◌≡◌, ℕ, ◌^◌, ◌<◌, nat_lt, Bool, true, Option, Some, None, List, [], ◌∷◌, ◌++◌}
-use Rattle.std.specs.Prelude.{length}
+use Rattle.std.specs.Prelude.{length, map}
 use Rattle.std.specs.Int.{w8, w16, w32, w64, to_le_bytes}
 use Rattle.std.specs.List.{AllByRecursion}
 use Rattle.iofd_words.specs.Bounds.{Bounds}
 use Rattle.iofd_words.specs.Fault.{reason_number}
 use Rattle.iofd_words.specs.Refusal.{errno_number, number_of}
 use Rattle.iofd_words.specs.Settings.{Settings}
+use Rattle.iofd_words.specs.declared.event.DirtyRequest.{DirtyRequest}
 use Rattle.iofd_words.specs.declared.event.Event.{Event}
 use Rattle.iofd_words.specs.declared.event.Event.TheVariants as event
 use Rattle.iofd_words.specs.declared.event.PinRequest.{PinRequest}
@@ -19,7 +20,8 @@ use Rattle.journal_audit_bytes.specs.Format.{ListFits, Listed, burst, entries, f
 use Rattle.journal_audit_bytes.specs.Format.{tail_spelled}
 use Rattle.journal_audit_bytes.specs.Format.{TailFits}
 use Rattle.journal_audit_bytes.specs.Head.{all_spelled}
-use Rattle.journal_audit_bytes.specs.Reading.{copy_numbers, map_numbers, of_frames, purpose_number, tagged_event}
+use Rattle.journal_audit_bytes.specs.Reading.{copy_numbers, map_numbers, of_frames, purpose_number, switch_number}
+use Rattle.journal_audit_bytes.specs.Reading.{tagged_event}
 use Rattle.journal_audit_bytes.specs.Replies.{fault_of}
 use Rattle.journal_audit_writing.specs.declared.number.Number.{Number}
 use Rattle.journal_audit_writing.specs.declared.number.Number.TheVariants.{U8, U16, U32, U64}
@@ -68,6 +70,9 @@ abbrev pub pin_fields : ℕ → ℕ → ℕ → PinRequest → List Number
 pin_fields tag file id p =
     U8 tag ∷ U16 file ∷ U32 id ∷ U64 p.iova.0 ∷ U64 p.length ∷ U8 (purpose_number p.write) ∷ []
 
+abbrev pub dirty_fields : ℕ → DirtyRequest → List Number
+dirty_fields file d = U8 0xf1 ∷ U16 file ∷ U32 d.hwpt.0 ∷ U64 d.iova.0 ∷ U64 d.length ∷ []
+
 -- its tag, and its numbers by their widths
 abbrev pub event_numbers : {A : Type 0} → Event A → List Number
 event_numbers (event.Close file) = U8 0x01 ∷ U16 file.0 ∷ []
@@ -96,6 +101,8 @@ event_numbers (event.Map file m) =
     U8 0x85 ∷ U16 file.0 ∷ U32 m.flags.0 ∷ U32 m.ioas.0 ∷ U64 m.user_va ∷ U64 m.length ∷ U64 m.iova.0 ∷ []
 event_numbers (event.Unmap file u) = U8 0x86 ∷ U16 file.0 ∷ U32 u.ioas.0 ∷ U64 u.iova.0 ∷ U64 u.length ∷ []
 event_numbers (event.HwptAlloc file h) = U8 0x89 ∷ U16 file.0 ∷ U32 h.device.0 ∷ U32 h.ioas.0 ∷ []
+event_numbers (event.DirtyEnable file hwpt on) = U8 0xf0 ∷ U16 file.0 ∷ U32 hwpt.0 ∷ U8 (switch_number on) ∷ []
+event_numbers (event.DirtyClear file request) = dirty_fields file.0 request
 
 -- the list behind them
 abbrev pub event_list : {A : Type 0} → Event A → Option Listed
@@ -115,6 +122,12 @@ reply_numbers (reply.Frame frame) = U8 0x05 ∷ U32 frame.0 ∷ []
 reply_numbers (reply.Passed frame) = U8 0x06 ∷ U32 frame.0 ∷ []
 reply_numbers (reply.Fault fault) = U8 0x07 ∷ U8 (reason_number fault.reason) ∷ []
 reply_numbers (reply.Refused refusal) = U8 0x08 ∷ U8 (number_of refusal.cause) ∷ []
+reply_numbers (reply.Dirty words) = U8 0x09 ∷ map (λ word. U64 word) words
+
+-- a report has four words
+abbrev pub HasWords : Reply → Type 0
+HasWords (reply.Dirty words) = length words ≡ 4
+HasWords reply = Unit {0}
 
 -- ---- records
 
@@ -140,6 +153,7 @@ module _ {A : Type 0} where
     pub event : NumbersFit (event_numbers r.event)
     pub list : ListOfFits r.event
     pub reply : NumbersFit (reply_numbers r.reply)
+    pub words : HasWords r.reply
     pub taken : ListFits frames (of_frames r.taken)
     pub given : ListFits frames (of_frames r.given)
 

@@ -1,15 +1,19 @@
 //! Events and replies, appended to bytes.
 
 ghost use Rattle.std.specs.Prelude.{◌≡◌, ◌^◌, ◌<◌, true, OnOk, length};
+ghost use Rattle.iofd_words.specs.declared.reply.Reply.TheVariants as answer;
 ghost use Rattle.journal_audit_bytes.specs.Format as format;
 ghost use Rattle.journal_audit_bytes.specs.Format.{ListFits, list_spelled};
 ghost use Rattle.journal_audit_bytes.specs.Reading.{of_frames, pairs, singles};
-ghost use Rattle.journal_audit_writing.specs.Texts.{ListOfFits, NumbersFit, event_numbers, event_text, is_kept_event};
-ghost use Rattle.journal_audit_writing.specs.Texts.{list_text, numbers_text, pin_fields, reply_numbers};
+ghost use Rattle.journal_audit_writing.specs.Texts.{HasWords, ListOfFits, NumbersFit, dirty_fields, event_numbers};
+ghost use Rattle.journal_audit_writing.specs.Texts.{event_text, is_kept_event, list_text, numbers_text, pin_fields};
+ghost use Rattle.journal_audit_writing.specs.Texts.{reply_numbers};
 ghost use Rattle.journal_audit_writing.specs.Writing.{Appends};
 
 use crate::number::{Number, Spell, spell_all, spell_counted};
-use iofd_words::{Burst, Event, FileNo, FrameNo, IovaRange, NoMemory, ObjId, PinRequest, Reply};
+use iofd_words::{
+    Burst, DirtyRequest, Event, FileNo, FrameNo, IovaRange, NoMemory, ObjId, PinRequest, Reply,
+};
 use std::alloc::Allocator;
 
 // The numbers of an AccessPin or an AccessUnpin.
@@ -32,6 +36,27 @@ fn spell_pin<A: Allocator>(
         Number::U64(iova),
         Number::U64(length),
         Number::U8(write),
+    ];
+    spell_all(out, &numbers)
+}
+
+// The tag and the numbers of a DirtyClear.
+fn spell_clear<A: Allocator>(
+    out: &mut Vec<u8, A>,
+    file: FileNo,
+    request: DirtyRequest,
+) -> Result<(), NoMemory>
+    ensures bytes { Appends result out.old.items out.new.items (numbers_text (dirty_fields file.0 request)) }
+    ensures fits { OnOk result (NumbersFit (dirty_fields file.0 request)) }
+{
+    let (file, hwpt) = (file.0, request.hwpt.0);
+    let (iova, length) = (request.iova.0, request.length);
+    let numbers = [
+        Number::U8(0xf1),
+        Number::U16(file),
+        Number::U32(hwpt),
+        Number::U64(iova),
+        Number::U64(length),
     ];
     spell_all(out, &numbers)
 }
@@ -115,6 +140,13 @@ fn spell_numbers<A: Allocator, B: Allocator>(
                 U32(request.ioas.0),
             ],
         ),
+        Event::DirtyEnable(file, hwpt, on) => {
+            spell_all(
+                out,
+                &[U8(0xf0), U16(file.0), U32(hwpt.0), U8(u8::from(*on))],
+            )
+        }
+        Event::DirtyClear(file, request) => spell_clear(out, *file, *request),
     }
 }
 
@@ -179,10 +211,28 @@ pub fn spell_event<A: Allocator, B: Allocator>(
     spell_list(out, event)
 }
 
+// The tag and the words of a report.
+fn spell_words<A: Allocator>(out: &mut Vec<u8, A>, words: &[u64; 4]) -> Result<(), NoMemory>
+    ensures bytes { Appends result out.old.items out.new.items (numbers_text (reply_numbers (answer.Dirty words.now))) }
+    ensures fits { OnOk result (NumbersFit (reply_numbers (answer.Dirty words.now))) }
+    ensures four { length words.now ≡ 4 }
+{
+    let [first, second, third, fourth] = *words;
+    let numbers = [
+        Number::U8(0x09),
+        Number::U64(first),
+        Number::U64(second),
+        Number::U64(third),
+        Number::U64(fourth),
+    ];
+    spell_all(out, &numbers)
+}
+
 /// Appends what a record tells of a reply.
 pub fn spell_reply<A: Allocator>(out: &mut Vec<u8, A>, reply: &Reply) -> Result<(), NoMemory>
     ensures bytes { Appends result out.old.items out.new.items (numbers_text (reply_numbers reply.now)) }
     ensures fits { OnOk result (NumbersFit (reply_numbers reply.now)) }
+    ensures words { OnOk result (HasWords reply.now) }
 {
     use Number::{U8, U32, U64};
     match reply {
@@ -195,5 +245,6 @@ pub fn spell_reply<A: Allocator>(out: &mut Vec<u8, A>, reply: &Reply) -> Result<
         Reply::Passed(frame) => spell_all(out, &[U8(0x06), U32(frame.0)]),
         Reply::Fault(fault) => spell_all(out, &[U8(0x07), U8(fault.reason.number())]),
         Reply::Refused(refusal) => spell_all(out, &[U8(0x08), U8(refusal.number())]),
+        Reply::Dirty(words) => spell_words(out, words),
     }
 }

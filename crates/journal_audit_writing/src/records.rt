@@ -2,6 +2,7 @@
 
 ghost use Rattle.std.specs.Prelude.{◌≡◌, ◌^◌, ◌<◌, ◌++◌, true, List, ℕ, OnOk, OnErr, length};
 ghost use Rattle.journal_audit_bytes.specs.Journal.{HasSpelling, SpellsRecord};
+ghost use Rattle.journal_audit_bytes.specs.declared.version.Version.TheVariants.{Two};
 ghost use Rattle.journal_audit_writing.specs.Failing.{OnUnspelt};
 ghost use Rattle.journal_audit_writing.specs.Texts.{RecordFits, is_kept_event, record_text};
 ghost use Rattle.journal_audit_writing.specs.Writing.{Appends};
@@ -39,18 +40,18 @@ fn spell_record<A: Allocator, B: Allocator>(
     spell_frames(out, record.given.as_slice())
 }
 
-/// Appends the bytes of a record of a journal with this configuration. The error is Unspelt where the record has no
-/// spelling: its pass isn't below the configuration's, its flags have an unknown bit, an address that they don't fix
-/// isn't 0, a list is longer than its number can say, or a fault isn't the one that the event has for its reason. It is
-/// NoMemory where memory was refused. An error leaves the bytes as they were.
+/// Appends the bytes of a record of a journal of version 2 with this configuration. The error is Unspelt where the
+/// record has no spelling: its pass isn't below the configuration's, its flags have an unknown bit, an address that
+/// they don't fix isn't 0, a list is longer than its number can say, or a fault isn't the one that the event has for
+/// its reason. It is NoMemory where memory was refused. An error leaves the bytes as they were.
 pub fn write_record<A: Allocator, B: Allocator, C: Allocator>(
     config: &Config<A>,
     record: &Record<B>,
     out: &mut Vec<u8, C>,
 ) -> Result<(), WriteError>
-    ensures ok { OnOk result ((text : List ℕ) × SpellsRecord config.now «record».now text
+    ensures ok { OnOk result ((text : List ℕ) × SpellsRecord Two config.now «record».now text
         × (out.new.items ≡ out.old.items ++ text)) }
-    ensures unspelt { OnUnspelt result (¬ HasSpelling config.now «record».now) }
+    ensures unspelt { OnUnspelt result (¬ HasSpelling Two config.now «record».now) }
     ensures err { OnErr result (out.new.items ≡ out.old.items) }
 {
     if !is_spelt(config, record) {

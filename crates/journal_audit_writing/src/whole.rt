@@ -25,9 +25,9 @@ fn write_records<A: Allocator, B: Allocator, C: Allocator>(
     records: &[Record<B>],
     out: &mut Vec<u8, C>,
 ) -> Result<(), JournalError>
-    ensures ok { OnOk result ((text : List ℕ) × SpellRecords config.now records.now text
+    ensures ok { OnOk result ((text : List ℕ) × SpellRecords Two config.now records.now text
         × (out.new.items ≡ out.old.items ++ text)) }
-    ensures unspelt { OnUnspeltAt result (λ index. IsFirstUnspelt config.now records.now index) }
+    ensures unspelt { OnUnspeltAt result (λ index. IsFirstUnspelt Two config.now records.now index) }
 {
     for (index, record) in records.iter().enumerate() {
         match write_record(config, record, out) {
@@ -48,7 +48,7 @@ pub fn journal<A: Allocator, B: Allocator, C: Allocator>(
     records: &[Record<C>],
 ) -> Result<Vec<u8, A>, JournalError>
     ensures ok { IfOk result (λ bytes. IsJournal Two config.now records.now bytes.items) }
-    ensures unspelt { OnUnspeltAt result (λ index. IsFirstUnspelt config.now records.now index) }
+    ensures unspelt { OnUnspeltAt result (λ index. IsFirstUnspelt Two config.now records.now index) }
 {
     let mut bytes = Vec::new(alloc);
     match write_head(config, &mut bytes) {

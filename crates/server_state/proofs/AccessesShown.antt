@@ -143,6 +143,7 @@ module _ {A : Type 0} (at : ℕ) (w : World) (s : State A) (file : FileNo) (id :
       record {
         settings = shows.settings;
         limits = shows.limits;
+        dirty = shows.dirty;
         allowed = shows.allowed;
         objects = record {
           rows = ap (with_access file id attached) shows.objects.rows ∙ sym has.objects;

@@ -8,6 +8,7 @@ pub mod Bindings
 pub mod Counted
 pub mod CountsShown
 pub mod DevicesOn
+pub mod DirtyMoves
 pub mod Errors
 pub mod FewTables
 pub mod FreeAlike

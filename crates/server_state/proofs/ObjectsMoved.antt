@@ -118,6 +118,7 @@ module _ {A : Type 0} where
         };
         devices = record { bindings = bound; rising = rising; attached = shows.devices.attached };
         limits = shows.limits;
+        dirty = shows.dirty;
         allowed = shows.allowed;
         users = shows.users;
         pins = pins_moved w.objects (with_object (object_of row) w.objects) w.areas w.areas w.memory w.pins

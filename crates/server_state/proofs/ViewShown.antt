@@ -8,6 +8,8 @@ use Rattle.std.proofs.Math.Path.{fun_ext}
 use Rattle.iofd_words.specs.Allowed.{allowed_of}
 use Rattle.iofd_words.specs.Areas as area
 use Rattle.iofd_words.specs.Checks.{checks, refusal}
+use Rattle.dirty_bitmap.specs.Tracking.{is_tracked}
+use Rattle.iofd_words.specs.Dirty as dirty
 use Rattle.iofd_words.specs.Files as file
 use Rattle.iofd_words.specs.Frames as frame
 use Rattle.iofd_words.specs.Pages.{page_of}
@@ -129,6 +131,8 @@ module _ {A : Type 0} (w : World) (s : State A) (shows : Shows w s) where
         in
         let told : has_kept s.pool s.page_tables.tables ≡ has_table w.table_frames =
         fun_ext (λ f. fun_ext (λ i. fun_ext (tables_told w s.page_tables s.pool shows.tables owned f i))) in
+        let tracked : is_tracked s.dirty ≡ dirty.tracks w.tracked =
+        fun_ext (λ f. fun_ext (λ i. sym (shows.dirty.tracks f i))) in
         let held : kept.held_by s.memory ≡ pin.held_by (pin.pinned_frame w.pins) w.memory =
         fun_ext (λ user.
         ap (λ (rows : List MemoryObject). pin.held_by (kept.pinned_frame s.memory) rows user) (sym shows.pins.rows)
@@ -155,6 +159,7 @@ module _ {A : Type 0} (w : World) (s : State A) (shows : Shows w s) where
           pages,
           same_count,
           told,
+          tracked,
           holders,
           full,
           same,

@@ -46,6 +46,7 @@ is_fault (answer.Read bytes) = false
 is_fault (answer.Count count) = false
 is_fault (answer.Attached hwpt) = false
 is_fault (answer.Walk translation) = false
+is_fault (answer.Dirty words) = false
 is_fault (answer.Fault fault) = true
 is_fault (answer.Refused refusal) = false
 
@@ -100,6 +101,8 @@ IsChosen w (event.AccessDetach file id) via answer = Unit {0}
 IsChosen w (event.AccessPin file id request) via answer = Unit {0}
 IsChosen w (event.AccessUnpin file id request) via answer = Unit {0}
 IsChosen w (event.AccessWrite file id iova bytes) via answer = Unit {0}
+IsChosen w (event.DirtyEnable file hwpt on) via answer = Unit {0}
+IsChosen w (event.DirtyClear file request) via answer = Unit {0}
 
 -- ---- frames of tables
 

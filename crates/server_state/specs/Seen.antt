@@ -1,6 +1,7 @@
 -- What is kept, as the view that the refusals and the policy read. It is that of the world that is shown.
 use Rattle.std.specs.Prelude.{nat_le}
 use Rattle.std.specs.List.{list_any}
+use Rattle.dirty_bitmap.specs.Tracking.{is_tracked}
 use Rattle.frame_memory.specs.Pool.{free_count}
 use Rattle.held_pins.specs.HeldPins.{are_own_met, count_of, holds_some, is_covered}
 use Rattle.page_table_set.specs.Kept.{has_kept}
@@ -37,4 +38,5 @@ seen s =
       held_by = held_by s.memory;
       free_count = free_count s.pool.holds;
       has_table = has_kept s.pool s.page_tables.tables;
+      tracks = is_tracked s.dirty;
     }

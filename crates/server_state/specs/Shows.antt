@@ -1,9 +1,11 @@
--- When what is kept shows a world: each question of the world has its answer there. Ten groups: the settings, the
+-- When what is kept shows a world: each question of the world has its answer there. Eleven groups: the settings, the
 -- limits of users, the lists of rows, and the page tables in their frames.
-use Rattle.std.specs.Prelude.{◌≡◌, true, List, map}
+use Rattle.std.specs.Prelude.{◌≡◌, ℕ, true, List, map}
 use Rattle.std.specs.List.{list_all}
 use Rattle.iofd_words.specs.Allowed.{allowed_of}
 use Rattle.iofd_words.specs.Areas.{areas_of}
+use Rattle.iofd_words.specs.Dirty as dirty
+use Rattle.iofd_words.specs.Dirty.{TrackedTable}
 use Rattle.iofd_words.specs.Files as file
 use Rattle.iofd_words.specs.Objects.{binding_of}
 use Rattle.iofd_words.specs.Settings.{Settings}
@@ -22,6 +24,7 @@ use Rattle.server_state.specs.Leads.{leads_of}
 use Rattle.server_state.specs.Tables.{has_own_width, page_tables_among}
 use Rattle.server_state.specs.Users.{AccessSpaces, AreCounted}
 use Rattle.server_state.specs.declared.state.State.{State}
+use Rattle.dirty_bitmap.specs.Tracking.{Tables, is_dirty, is_tracked}
 use Rattle.frame_memory.specs.Pool.{FramePool}
 use Rattle.page_table_set.specs.PageTables.{AllStand, PageTables, objects_of}
 use Rattle.user_memory_rows.specs.Shown.{FramesShown, PinsShown, UsersShown}
@@ -54,6 +57,11 @@ pub record TablesShown (w : World) (kept : PageTables) (pool : FramePool) : Type
   pub widths : list_all has_own_width kept.tables ≡ true
   pub stand : AllStand pool w.table_frames (leads_of w) kept.tables
 
+-- which page tables are tracked, and which of their pages are marked
+pub record DirtyShown (tracked : List TrackedTable) (kept : Tables) : Type 0 where
+  pub tracks : (f : FileNo) (h : ObjId) → dirty.tracks tracked f h ≡ is_tracked kept f h
+  pub marks : (f : FileNo) (h : ObjId) (page : ℕ) → dirty.is_marked tracked f h page ≡ is_dirty kept f h page
+
 pub record Shows {A : Type 0} (w : World) (s : State A) : Type 0 where
   pub settings : w.settings ≡ s.config
   pub limits : s.memory.limits ≡ w.settings.users
@@ -64,5 +72,6 @@ pub record Shows {A : Type 0} (w : World) (s : State A) : Type 0 where
   pub users : UsersShown w.user_pages s.memory.pages
   pub pins : PinsShown w.objects w.areas w.memory w.pins w.access_pins s.memory
   pub access_pins : AccessPinsShown w.objects w.access_pins s.access_pins
+  pub dirty : DirtyShown w.tracked s.dirty
   pub frames : FramesShown w.settings.pool w.writes w.table_frames s.memory s.pool
   pub tables : TablesShown w s.page_tables s.pool

@@ -1,6 +1,7 @@
 //! What the server keeps of the world.
 
 use crate::held::Held;
+use dirty_bitmap::DirtyTables;
 use frame_memory::Pool;
 use held_pins::HeldPins;
 use iofd_words::{Attachment, Config, Object};
@@ -30,6 +31,8 @@ pub struct State<A: Allocator = Global> {
     pub attachments: Vec<Attachment, A>,
     /// The pins that access objects hold.
     pub access_pins: HeldPins<A>,
+    /// The page tables whose written pages are tracked, with the pages that were written.
+    pub dirty: DirtyTables<A>,
     /// The users' pages and accounts, and the memory objects with their pins.
     pub memory: UserMemory<A>,
     /// The frames.

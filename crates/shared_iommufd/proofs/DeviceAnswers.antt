@@ -104,6 +104,7 @@ ComesOfRead address len (answer.Refused refusal) = Unit {0}
 ComesOfRead address len (answer.Count count) = ⊥
 ComesOfRead address len (answer.Attached hwpt) = ⊥
 ComesOfRead address len (answer.Walk translation) = ⊥
+ComesOfRead address len (answer.Dirty words) = ⊥
 
 pub comes_of_read : {A : Type 0} (settings : Settings) (records : List (Record A)) (device : DeviceNo) (iova : Iova)
     (len : ℕ) (a : Answer) → IsRun settings records

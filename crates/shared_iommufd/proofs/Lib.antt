@@ -2,6 +2,7 @@ pub mod Accessed
 pub mod Bounds
 pub mod DeviceAnswers
 pub mod Ended
+pub mod IoctlBytes
 pub mod Keys
 pub mod Passed
 pub mod PortReads

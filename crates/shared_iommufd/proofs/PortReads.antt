@@ -198,6 +198,7 @@ read_answer address len (answer.Refused refusal) comes = tt
 read_answer address len (answer.Count count) comes = comes
 read_answer address len (answer.Attached hwpt) comes = comes
 read_answer address len (answer.Walk translation) comes = comes
+read_answer address len (answer.Dirty words) comes = comes
 
 -- ---- a read that goes on
 

@@ -1,5 +1,6 @@
 -- What a call of ioctl makes and answers.
-use Rattle.std.specs.Prelude.{◌≡◌, ◌⊎◌, ℕ, Option, Some, None, List, [], length, Result, Ok, Err}
+use Rattle.std.specs.Prelude.{◌≡◌, ◌⊎◌, ℕ, false, Option, Some, None, List, [], length, Result, Ok, Err}
+use Rattle.std.specs.declared.alloc.Global.{Global}
 use Rattle.iofd_words.specs.Bounds.{Bounds}
 use Rattle.iofd_words.specs.FirstTrue.{first_true}
 use Rattle.iofd_words.specs.Look.{AreUsableRanges, ranges_checks}
@@ -8,17 +9,23 @@ use Rattle.iofd_words.specs.Settings.{Settings}
 use Rattle.iofd_words.specs.View.{view}
 use Rattle.iofd_words.specs.declared.call_error.CallError.{CallError}
 use Rattle.iofd_words.specs.declared.call_error.CallError.TheVariants as error
+use Rattle.iofd_words.specs.declared.event.DirtyRequest.{DirtyRequest}
 use Rattle.iofd_words.specs.declared.event.Event.{Event}
 use Rattle.iofd_words.specs.declared.numbers.FileNo.{FileNo}
+use Rattle.iofd_words.specs.declared.query.Answer.{Answer}
+use Rattle.iofd_words.specs.declared.query.Answer.TheVariants as looked
+use Rattle.iofd_words.specs.declared.query.Query.TheVariants as query
 use Rattle.iofd_words.specs.declared.record.Record.{Record}
 use Rattle.iofd_words.specs.declared.refusal.Cause.{Cause}
 use Rattle.iofd_words.specs.declared.refusal.Errno.{Errno}
 use Rattle.iofd_words.specs.declared.refusal.NoMemory.{NoMemory}
 use Rattle.iofd_words.specs.declared.reply.Reply.{Reply}
+use Rattle.iofd_words.specs.declared.reply.Reply.TheVariants as reply
 use Rattle.ioctl_codec.specs.Events.{asked, command_of, errno_of, ranges_errno}
 use Rattle.ioctl_codec.specs.Refusals as codec
 use Rattle.ioctl_codec.specs.Spelling.{Spells, ranges_written_back, written_back}
 use Rattle.ioctl_codec.specs.declared.command.Command.{Command}
+use Rattle.ioctl_codec.specs.declared.command.Command.TheVariants.{DirtyReport}
 use Rattle.ioctl_codec.specs.declared.command.RangesRequest.{RangesRequest}
 use Rattle.ioctl_codec.specs.declared.events.Asked.{Asked}
 use Rattle.ioctl_codec.specs.declared.events.Asked.TheVariants as asks
@@ -32,10 +39,20 @@ use Rattle.guarded_core.specs.Entries.{history_of}
 use Rattle.guarded_core.specs.Guarded.{RefusesCommit}
 use Rattle.shared_iommufd.specs.Made.{Makes}
 use Rattle.guarded_core.specs.Passes.{CoreGhosts, CorePass}
-use Rattle.shared_iommufd.specs.Seen.{HasSeen}
+use Rattle.shared_iommufd.specs.Seen.{HasSeen, IsAnswered}
 use Rattle.guarded_core.specs.declared.try_error.TryError.{TryError}
 use Rattle.guarded_core.specs.declared.try_error.TryError.TheVariants as tried
 use Rattle.shared_iommufd.specs.declared.ioctl_answer.IoctlAnswer.{IoctlAnswer}
+
+-- what the question which pages were written is answered, as a reply to its command
+abbrev pub reply_told : Answer → Reply
+reply_told (looked.Dirty words) = reply.Dirty words
+reply_told (looked.Refused refusal) = reply.Refused refusal
+reply_told other = reply.Done
+
+-- what is written back for a report that doesn't clear and is told so
+unfoldable pub report_written_back : DirtyRequest → Reply → List ℕ
+report_written_back request words = written_back {A = Global} (DirtyReport request false) words
 
 module _ {A : Type 0} where
   -- this error is answered, if any, and these bytes are written back
@@ -66,6 +83,11 @@ module _ {A : Type 0} where
             × Answers answer (ranges_errno request (length ranges)) (ranges_written_back request ranges)
       ]
 
+  -- the words are written back behind its structure, or it is answered why there are none
+  abbrev pub AnswersReport : DirtyRequest → Answer → IoctlAnswer A → Type 0
+  AnswersReport request words answer =
+      Answers answer (errno_of (reply_told words)) (report_written_back request (reply_told words))
+
   module _ {g : CoreGhosts A} where
     -- the event made one record, whose reply is answered to the command that asks for it
     pub record IsMade (settings : Settings) (p : CorePass A g) (e : Event A) (answer : IoctlAnswer A)
@@ -82,10 +104,19 @@ module _ {A : Type 0} where
       pub seen : HasSeen settings q records
       pub answers : AnswersRanges (history_of settings records) file request answer
 
+    -- no record was made; the report is of all records that the pass has then seen
+    pub record IsReported (settings : Settings) (p : CorePass A g) (file : FileNo) (request : DirtyRequest)
+        (answer : IoctlAnswer A) (q : CorePass A g) : Type 0 where
+      pub sees : OnlySees (view_of p) (view_of q)
+      pub told : Answer
+      pub answered : IsAnswered settings q (query.Dirty file request) told
+      pub answers : AnswersReport request told answer
+
     -- what the command asks for was carried out
     abbrev pub IsServed : Settings → CorePass A g → FileNo → Asked A → IoctlAnswer A → CorePass A g → Type 0
     IsServed settings p file (asks.Event e) answer q = IsMade settings p e answer q
     IsServed settings p file (asks.Ranges request) answer q = IsTold settings p file request answer q
+    IsServed settings p file (asks.Dirty request) answer q = IsReported settings p file request answer q
 
     -- the bytes spell no command, and are refused by the first cause; the pass is as it was
     pub record IsUndecoded (p : CorePass A g) (number : ℕ) (bytes : List ℕ) (answer : IoctlAnswer A) (q : CorePass A g)

@@ -34,6 +34,7 @@ IsReadAnswer len (answer.Refused refusal) = Unit {0}
 IsReadAnswer len (answer.Count count) = ⊥
 IsReadAnswer len (answer.Attached hwpt) = ⊥
 IsReadAnswer len (answer.Walk translation) = ⊥
+IsReadAnswer len (answer.Dirty words) = ⊥
 
 -- the answer is no bytes, for this cause
 abbrev pub IsDenial : Answer → PortCause → Type 0

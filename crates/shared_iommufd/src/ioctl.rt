@@ -1,10 +1,11 @@
 //! Calls of ioctl, byte by byte.
 
-ghost use Rattle.std.specs.Prelude.{◌≡◌, ◌<◌, ◌^◌, ◌≤◌, ◌++◌, Some, [], drop, length, vec_len, IfOk};
+ghost use Rattle.std.specs.Prelude.{◌≡◌, ◌<◌, ◌^◌, ◌≤◌, ◌++◌, Some, [], drop, length, take, vec_len, IfOk};
 ghost use Rattle.iofd_words.specs.Refusal.{errno_of};
 ghost use Rattle.ioctl_codec.specs.Events.{ranges_errno};
 ghost use Rattle.ioctl_codec.specs.Spelling.{ranges_written_back};
-ghost use Rattle.shared_iommufd.specs.Ioctls.{Answers, AnswersEvent, AnswersSet, event_written_back};
+ghost use Rattle.shared_iommufd.specs.Ioctls.{Answers, AnswersEvent, AnswersReport, AnswersSet, event_written_back};
+ghost use Rattle.shared_iommufd.specs.Ioctls.{reply_told, report_written_back};
 
 use crate::ioctl_answer::IoctlAnswer;
 use crate::server::{Pass, Server};
@@ -13,7 +14,9 @@ use ioctl_codec::{
     Asked, Command, DecodeError, RangesRequest, decode, encode_ranges, encode_reply_to, errno_of,
     ranges_errno,
 };
-use iofd_words::{Act, CallError, Event, FileNo, NoMemory, Refusal, Reply, Span};
+use iofd_words::{
+    Act, Answer, CallError, DirtyRequest, Event, FileNo, NoMemory, Query, Refusal, Reply, Span,
+};
 use iova_ranges::RangeSet;
 use std::alloc::Allocator;
 use std::sync::Wait;
@@ -42,7 +45,7 @@ fn room_for_reply<A: Allocator>(alloc: A) -> Result<Vec<u8, A>, NoMemory>
 // is.
 fn write_back<A: Allocator>(event: Event<A>, reply: &Reply, buffer: &mut [u8; 64]) -> usize
     ensures count { result ≡ length (event_written_back event reply.now) }
-    ensures at_most { result ≤ 40 }
+    ensures at_most { result ≤ 64 }
     ensures bytes { buffer.new ≡ event_written_back event reply.now ++ drop result buffer.old }
 {
     match Command::of_event(event) {
@@ -52,17 +55,62 @@ fn write_back<A: Allocator>(event: Event<A>, reply: &Reply, buffer: &mut [u8; 64
 }
 
 // What is answered where an event has this reply.
-fn written<A: Allocator>(event: Event<A>, reply: &Reply, mut room: Vec<u8, A>) -> IoctlAnswer<A>
+fn written<A: Allocator>(event: Event<A>, reply: &Reply, room: Vec<u8, A>) -> IoctlAnswer<A>
     requires { vec_len room ≡ 64 }
     ensures { AnswersEvent event reply.now result }
 {
     let mut buffer = [0; 64];
     let count = write_back(event, reply, &mut buffer);
-    room.copy_from_slice(&buffer);
-    room.truncate(count);
     IoctlAnswer {
         errno: errno_of(reply),
-        bytes: room,
+        bytes: filled(room, &buffer, count),
+    }
+}
+
+// The room with so many bytes from the front of the buffer.
+fn filled<A: Allocator>(mut room: Vec<u8, A>, buffer: &[u8; 64], count: usize) -> Vec<u8, A>
+    requires room { vec_len room ≡ 64 }
+    requires within { count ≤ 64 }
+    ensures { result.items ≡ take count buffer.now }
+{
+    room.copy_from_slice(buffer);
+    room.truncate(count);
+    room
+}
+
+// What the question which pages were written is answered, as a reply to its command.
+fn reply_told(told: &Answer) -> Reply
+    ensures { result ≡ reply_told told.now }
+{
+    match told {
+        Answer::Dirty(words) => Reply::Dirty(*words),
+        Answer::Refused(refusal) => Reply::Refused(*refusal),
+        _ => Reply::Done,
+    }
+}
+
+// Writes what is written back for a report that is told so to the front of the buffer, and answers how many bytes that is.
+#[tactic(auto, unfolding(crate::specs::Ioctls::report_written_back))]
+fn write_report(request: DirtyRequest, reply: &Reply, buffer: &mut [u8; 64]) -> usize
+    ensures count { result ≡ length (report_written_back request reply.now) }
+    ensures at_most { result ≤ 64 }
+    ensures bytes { buffer.new ≡ report_written_back request reply.now ++ drop result buffer.old }
+{
+    let command: Command = Command::DirtyReport(request, false);
+    encode_reply_to(&command, reply, buffer)
+}
+
+// What is answered where that question is answered so.
+fn reported<A: Allocator>(request: DirtyRequest, told: &Answer, room: Vec<u8, A>) -> IoctlAnswer<A>
+    requires { vec_len room ≡ 64 }
+    ensures { AnswersReport request told.now result }
+{
+    let reply = reply_told(told);
+    let mut buffer = [0; 64];
+    let count = write_report(request, &reply, &mut buffer);
+    IoctlAnswer {
+        errno: errno_of(&reply),
+        bytes: filled(room, &buffer, count),
     }
 }
 
@@ -105,14 +153,14 @@ impl<A: Allocator + Copy> Server<A> {
     ghost use Rattle.lane_lock.specs.Outcomes.{OnlySees};
     ghost use Rattle.lane_lock.specs.Passes.{SamePass, lane_of, lanes_of, view_of};
     ghost use Rattle.guarded_core.specs.Guarded.{RefusesCommit};
-    ghost use Rattle.shared_iommufd.specs.Ioctls.{IsDecoded, IsMade, IsServed, IsTold};
+    ghost use Rattle.shared_iommufd.specs.Ioctls.{IsDecoded, IsMade, IsReported, IsServed, IsTold};
     ghost use Rattle.shared_iommufd.specs.Ioctls.{RefusesCommand, RefusesIoctl, RefusesLook};
     ghost use Rattle.shared_iommufd.specs.Servers.{IsPassOf, settings_of};
 
     /// Carries out a call of ioctl that the file makes with this number and these bytes (uapi header `iommufd.h`), once
     /// its lanes can be had. A command that changes something makes exactly one record, as `call` does;
-    /// IOAS_IOVA_RANGES is answered as of all records that the pass has then seen; bytes that spell no command are
-    /// refused, take no lane and make no record.
+    /// IOAS_IOVA_RANGES and a DIRTY_REPORT that doesn't clear are answered as of all records that the pass has then seen;
+    /// bytes that spell no command are refused, take no lane and make no record.
     ///
     /// The memory of an event's answer is taken before the event is applied: with NoMemory no record was made. Bytes that
     /// spell no command are never answered so.
@@ -181,6 +229,7 @@ impl<A: Allocator + Copy> Server<A> {
         match command.asked(file) {
             Asked::Event(event) => self.answer_event(rt, pass, event),
             Asked::Ranges(request) => self.tell_ranges(rt, pass, file, request),
+            Asked::Dirty(request) => self.tell_report(rt, pass, file, request),
         }
     }
 
@@ -202,6 +251,7 @@ impl<A: Allocator + Copy> Server<A> {
         match command.asked(file) {
             Asked::Event(event) => self.try_answer_event(pass, event),
             Asked::Ranges(request) => self.try_tell_ranges(pass, file, request),
+            Asked::Dirty(request) => self.try_tell_report(pass, file, request),
         }
     }
 
@@ -243,6 +293,47 @@ impl<A: Allocator + Copy> Server<A> {
         match self.try_make(pass, &act) {
             Ok(stamp) => Ok(written(act.event, &stamp.reply, room)),
             Err(error) => Err(error),
+        }
+    }
+
+    // The answer to the question which pages were written.
+    fn tell_report<R: Wait>(
+        &self,
+        rt: &R,
+        pass: &mut Pass<A>,
+        file: FileNo,
+        request: DirtyRequest,
+    ) -> Result<IoctlAnswer<A>, NoMemory>
+        requires owned { IsPassOf self.now pass.old }
+        ensures same_pass { SamePass pass.old pass.new }
+        ensures owned { IsPassOf self.now pass.new }
+        ensures told { IfOk result (λ answer. IsReported (settings_of self.now) pass.old file request answer pass.new) }
+        ensures none { OnErr result (OnlySees (view_of pass.old) (view_of pass.new)) }
+    {
+        let room = room_for_reply(self.alloc)?;
+        let told = self.look(rt, pass, &Query::Dirty { file, request });
+        Ok(reported(request, &told, room))
+    }
+
+    // The same without waiting.
+    fn try_tell_report(
+        &self,
+        pass: &mut Pass<A>,
+        file: FileNo,
+        request: DirtyRequest,
+    ) -> Result<IoctlAnswer<A>, TryError<NoMemory>>
+        requires owned { IsPassOf self.now pass.old }
+        ensures same_pass { SamePass pass.old pass.new }
+        ensures owned { IsPassOf self.now pass.new }
+        ensures told { IfOk result (λ answer. IsReported (settings_of self.now) pass.old file request answer pass.new) }
+        ensures refused { IfErr result (RefusesLook (lane_of pass.old) (view_of pass.old) (view_of pass.new)) }
+    {
+        let Ok(room) = room_for_reply(self.alloc) else {
+            return Err(TryError::Call(NoMemory));
+        };
+        match self.try_look(pass, &Query::Dirty { file, request }) {
+            Ok(told) => Ok(reported(request, &told, room)),
+            Err(refused) => Err(TryError::NotNow(refused)),
         }
     }
 

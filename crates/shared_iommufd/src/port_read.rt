@@ -28,7 +28,9 @@ fn put(piece: &mut [u8], answer: &Answer) -> Result<(), PortCause>
         }
         Answer::Fault(fault) => Err(PortCause::Fault(*fault)),
         Answer::Refused(refusal) => Err(PortCause::Refused(*refusal)),
-        Answer::Count(_) | Answer::Attached(_) | Answer::Walk(_) => unreachable!(),
+        Answer::Count(_) | Answer::Attached(_) | Answer::Walk(_) | Answer::Dirty(_) => {
+            unreachable!()
+        }
     }
 }
 

@@ -90,7 +90,7 @@ fn flags_rights_widths_and_reasons_of_faults(rt: HostRuntime) {
     assert!(rt; are_flags() && are_rights() && are_widths() && are_reasons());
 }
 
-static REFUSALS: [(Cause, u8, u8); 13] = [
+static REFUSALS: [(Cause, u8, u8); 14] = [
     (Cause::Number, 1, 25),
     (Cause::Tail, 3, 7),
     (Cause::Unsupported, 4, 95),
@@ -104,6 +104,7 @@ static REFUSALS: [(Cause, u8, u8); 13] = [
     (Cause::Full, 23, 28),
     (Cause::Places, 25, 90),
     (Cause::Pending, 29, 16),
+    (Cause::Tracking, 30, 22),
 ];
 
 #[test]

@@ -1,4 +1,4 @@
-//! Worked bytes of each structure, read and written. Their refusals are scripts (`tests/long`).
+//! Worked bytes of each structure, read and written. Refusals of those of the uapi header are scripts (`tests/long`).
 
 use ioctl_codec::{
     Command, DecodeError, RangesRequest, decode, encode, encode_ranges, encode_reply,
@@ -44,8 +44,24 @@ const UNMAP: &[u8] = b"\x18\0\0\0\x01\0\0\0\0\0\0\0\0\0\0\0\xff\xff\xff\xff\xff\
 
 const HWPT: &[u8] = b"\x18\0\0\0\0\0\0\0\x01\x02\x03\x04\x05\x06\x07\x08\0\0\0\0\0\0\0\0";
 
+const ENABLE: &[u8] = b"\x10\0\0\0\x03\0\0\0\x01\0\0\0\0\0\0\0";
+
+const DISABLE: &[u8] = b"\x10\0\0\0\x01\x02\x03\x04\0\0\0\0\0\0\0\0";
+
+// Two pages from 0x1000 on.
+const REPORT: &[u8] = b"\x20\0\0\0\x03\0\0\0\0\0\0\0\0\0\0\0\0\x10\0\0\0\0\0\0\0\x20\0\0\0\0\0\0";
+
+// A report that clears: 256 pages from 2^32 on.
+const CLEAR: &[u8] = b"\x20\0\0\0\x03\0\0\0\x01\0\0\0\0\0\0\0\0\0\0\0\x01\0\0\0\0\0\x10\0\0\0\0\0";
+
+// Reports of 64 pages, and of 65.
+const REPORT_64: &[u8] = b"\x20\0\0\0\x03\0\0\0\0\0\0\0\0\0\0\0\0\0\0\0\0\0\0\0\0\0\x04\0\0\0\0\0";
+
+const REPORT_65: &[u8] =
+    b"\x20\0\0\0\x03\0\0\0\0\0\0\0\0\0\0\0\0\0\0\0\0\0\0\0\0\x10\x04\0\0\0\0\0";
+
 // With the structures' numbers. The first byte of each is the structure's length.
-static CANONICAL: [(u32, &[u8]); 11] = [
+static CANONICAL: [(u32, &[u8]); 15] = [
     (0x3b80, DESTROY),
     (0x3b81, ALLOC),
     (0x3b82, ALLOW),
@@ -57,6 +73,10 @@ static CANONICAL: [(u32, &[u8]); 11] = [
     (0x3b85, MAP_CHOSEN),
     (0x3b86, UNMAP),
     (0x3b89, HWPT),
+    (0x3bf0, ENABLE),
+    (0x3bf0, DISABLE),
+    (0x3bf1, REPORT),
+    (0x3bf1, CLEAR),
 ];
 
 fn map(flags: u32, length: u64, iova: u64) -> Command {
@@ -105,6 +125,20 @@ const PART_UNMAPPED: &[u8] = b"\x18\0\0\0\x01\0\0\0\xff\x4f\0\0\0\0\0\0\0\x10\0\
 const HWPT_MADE: &[u8] =
     b"\x18\0\0\0\0\0\0\0\x01\x02\x03\x04\x05\x06\x07\x08\x09\x0a\x0b\x0c\0\0\0\0";
 
+// The page of 0x2000 was written.
+const REPORTED: &[u8] = b"\x20\0\0\0\x03\0\0\0\0\0\0\0\0\0\0\0\0\x10\0\0\0\0\0\0\0\x20\0\0\0\0\0\0\
+      \x02\0\0\0\0\0\0\0";
+
+const CLEARED: &[u8] = b"\x20\0\0\0\x03\0\0\0\x01\0\0\0\0\0\0\0\0\0\0\0\x01\0\0\0\0\0\x10\0\0\0\0\0\
+      \x01\0\0\0\0\0\0\x80\xef\xcd\xab\x89\x67\x45\x23\x01\0\0\0\0\0\0\0\0\xff\xff\xff\xff\xff\xff\xff\xff";
+
+const REPORTED_64: &[u8] = b"\x20\0\0\0\x03\0\0\0\0\0\0\0\0\0\0\0\0\0\0\0\0\0\0\0\0\0\x04\0\0\0\0\0\
+      \0\0\0\0\0\0\0\x80";
+
+const REPORTED_65: &[u8] =
+    b"\x20\0\0\0\x03\0\0\0\0\0\0\0\0\0\0\0\0\0\0\0\0\0\0\0\0\x10\x04\0\0\0\0\0\
+      \0\0\0\0\0\0\0\x80\x01\0\0\0\0\0\0\0";
+
 // An UNMAP from 0x4fff, of 0x1002 bytes.
 const UNMAP_PART: &[u8] = b"\x18\0\0\0\x01\0\0\0\xff\x4f\0\0\0\0\0\0\x02\x10\0\0\0\0\0\0";
 
@@ -115,7 +149,7 @@ const MAP_LAST: &[u8] =
 // A structure with its number, a reply, and what is written back for it.
 type Row = (u32, &'static [u8], Reply, &'static [u8]);
 
-static GOOD_REPLIES: [Row; 11] = [
+static GOOD_REPLIES: [Row; 17] = [
     (0x3b80, DESTROY, Reply::Done, DESTROY),
     (0x3b81, ALLOC, Reply::Id(ObjId(1)), ALLOCATED),
     (0x3b82, ALLOW, Reply::Done, ALLOWED),
@@ -132,10 +166,31 @@ static GOOD_REPLIES: [Row; 11] = [
     (0x3b86, UNMAP, Reply::Bytes(0x6000), UNMAPPED),
     (0x3b86, UNMAP_PART, Reply::Bytes(0x1000), PART_UNMAPPED),
     (0x3b89, HWPT, Reply::Id(ObjId(0x0c0b_0a09)), HWPT_MADE),
+    (0x3bf0, ENABLE, Reply::Done, ENABLE),
+    (0x3bf0, DISABLE, Reply::Done, DISABLE),
+    (0x3bf1, REPORT, Reply::Dirty([2, 0, 0, 0]), REPORTED),
+    (
+        0x3bf1,
+        CLEAR,
+        Reply::Dirty([0x8000_0000_0000_0001, 0x0123_4567_89ab_cdef, 0, u64::MAX]),
+        CLEARED,
+    ),
+    (
+        0x3bf1,
+        REPORT_64,
+        Reply::Dirty([1 << 63, 0, 0, 0]),
+        REPORTED_64,
+    ),
+    (
+        0x3bf1,
+        REPORT_65,
+        Reply::Dirty([1 << 63, 1, 0, 0]),
+        REPORTED_65,
+    ),
 ];
 
 // Nothing is written back for a reply that isn't good.
-static BAD_REPLIES: [Row; 9] = [
+static BAD_REPLIES: [Row; 13] = [
     (0x3b80, DESTROY, BUSY, b""),
     (0x3b81, ALLOC, Reply::Done, b""),
     (0x3b83, COPY, BUSY, b""),
@@ -145,6 +200,10 @@ static BAD_REPLIES: [Row; 9] = [
     (0x3b86, UNMAP, Reply::Pending(Errno::EAGAIN), b""),
     (0x3b89, HWPT, Reply::Done, b""),
     (0x3b89, HWPT, BUSY, b""),
+    (0x3bf0, ENABLE, BUSY, b""),
+    (0x3bf0, ENABLE, Reply::Dirty([0; 4]), b""),
+    (0x3bf1, REPORT, Reply::Done, b""),
+    (0x3bf1, CLEAR, BUSY, b""),
 ];
 
 // Whether the bytes are refused for this cause.
@@ -186,11 +245,11 @@ fn canonical_bytes_are_read_and_written(rt: HostRuntime) {
     spellable_commands::<Global>();
 }
 
-// Whether this is written to the front of a buffer, and nothing to its end.
+// Whether this is written to the front of a buffer, and nothing behind it.
 fn puts(command: &Command, reply: &Reply, bytes: &[u8]) -> bool {
     let mut buffer = [0xaa; 64];
     let count = encode_reply_to(command, reply, &mut buffer);
-    &buffer[..count] == bytes && buffer.last() == Some(&0xaa)
+    &buffer[..count] == bytes && buffer[count..].iter().all(|byte| *byte == 0xaa)
 }
 
 // Whether this is written back for the command, in memory of its own and to the front of a buffer.
@@ -272,6 +331,87 @@ fn ignored_fields(rt: HostRuntime) {
     for (nr, bytes, canonical) in &IGNORED {
         assert!(rt; reads(rt.alloc(), *nr, *bytes, *canonical), "{nr:x}");
     }
+}
+
+// Bytes that are no DIRTY_ENABLE and no DIRTY_REPORT, and why.
+static REFUSED: [(u32, &[u8], Cause); 14] = [
+    // The numbers on both sides.
+    (0x3bef, ENABLE, Cause::Number),
+    (0x3bf2, REPORT, Cause::Number),
+    // A size below the structure's own length, and a byte too few for the size.
+    (
+        0x3bf0,
+        b"\x0f\0\0\0\x03\0\0\0\x01\0\0\0\0\0\0\0",
+        Cause::Short,
+    ),
+    (
+        0x3bf0,
+        b"\x10\0\0\0\x03\0\0\0\x01\0\0\0\0\0\0",
+        Cause::Short,
+    ),
+    (0x3bf1, ENABLE, Cause::Short),
+    // A byte in the tail.
+    (
+        0x3bf0,
+        b"\x11\0\0\0\x03\0\0\0\x01\0\0\0\0\0\0\0\x01",
+        Cause::Tail,
+    ),
+    // Flags other than the first.
+    (
+        0x3bf0,
+        b"\x10\0\0\0\x03\0\0\0\x02\0\0\0\0\0\0\0",
+        Cause::Unsupported,
+    ),
+    (
+        0x3bf0,
+        b"\x10\0\0\0\x03\0\0\0\x03\0\0\0\0\0\0\0",
+        Cause::Unsupported,
+    ),
+    (
+        0x3bf1,
+        b"\x20\0\0\0\x03\0\0\0\0\0\0\x80\0\0\0\0\0\x10\0\0\0\0\0\0\0\x20\0\0\0\0\0\0",
+        Cause::Unsupported,
+    ),
+    // A reserved field that isn't 0.
+    (
+        0x3bf0,
+        b"\x10\0\0\0\x03\0\0\0\x01\0\0\0\0\0\0\x01",
+        Cause::Unsupported,
+    ),
+    (
+        0x3bf1,
+        b"\x20\0\0\0\x03\0\0\0\0\0\0\0\x01\0\0\0\0\x10\0\0\0\0\0\0\0\x20\0\0\0\0\0\0",
+        Cause::Unsupported,
+    ),
+    // Before a byte behind the size.
+    (
+        0x3bf0,
+        b"\x10\0\0\0\x03\0\0\0\x02\0\0\0\0\0\0\0\0",
+        Cause::Unsupported,
+    ),
+    // A byte behind the size, and the words of an answer.
+    (
+        0x3bf0,
+        b"\x10\0\0\0\x03\0\0\0\x01\0\0\0\0\0\0\0\0",
+        Cause::Array,
+    ),
+    (0x3bf1, REPORTED, Cause::Array),
+];
+
+#[test]
+fn refused_dirty_commands(rt: HostRuntime) {
+    for (place, row) in REFUSED.iter().enumerate() {
+        let (nr, bytes, cause) = row;
+        assert!(rt; refuses(rt.alloc(), *nr, *bytes, *cause), "refused {place}");
+    }
+}
+
+// A DIRTY_ENABLE with a size above the structure's own length, and zeros up to it.
+const LONG_ENABLE: &[u8] = b"\x14\0\0\0\x03\0\0\0\x01\0\0\0\0\0\0\0\0\0\0\0";
+
+#[test]
+fn greater_sizes(rt: HostRuntime) {
+    assert!(rt; reads(rt.alloc(), 0x3bf0, LONG_ENABLE, ENABLE));
 }
 
 fn is_unspellable(command: Command) -> bool {

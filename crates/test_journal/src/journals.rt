@@ -6,7 +6,7 @@ use iofd_words::{
     AccessKind, Burst, Config, CopyRequest, DeviceNo, Event, Fault, FaultReason, FileNo, FrameList,
     FrameNo, Iova, MapFlags, MapRequest, ObjId, PassNo, Record, Reply, SourceId, UserNo,
 };
-use journal_audit_bytes::{SpelledRecord, read_head, read_record, typed_reply};
+use journal_audit_bytes::{SpelledRecord, Version, read_head, read_record, typed_reply};
 use journal_audit_writing::{JournalError, journal, write_record};
 use std::alloc::Allocator;
 
@@ -37,6 +37,9 @@ const EACH: &[u8] = b"\x02\0\x01\x01\0\0\0\0\0\0\
       \x02\0\x40\0\0\0\0\0\0\0\0\0\0\
       \x02\0\x86\x01\0\x01\0\0\0\0\x10\0\0\0\0\0\0\0\x20\0\0\0\0\0\0\x03\0\x20\0\0\0\0\0\0\0\0\0\0\
       \x02\0\x86\x01\0\x01\0\0\0\0\x10\0\0\0\0\0\0\0\x20\0\0\0\0\0\0\x04\x0b\0\0\0\0\
+      \x02\0\xf0\x01\0\x03\0\0\0\x01\0\0\0\0\0\
+      \x02\0\xf1\x01\0\x03\0\0\0\0\x10\0\0\0\0\0\0\0\x20\0\0\0\0\0\0\x09\x02\0\0\0\0\0\0\0\
+      \0\0\0\0\0\0\0\0\0\0\0\0\0\0\0\0\0\0\0\0\0\0\0\x80\0\0\0\0\
       \0\0\x89\x01\0\x02\0\0\0\x01\0\0\0\x01\x05\0\0\0\0\0\0\0";
 
 // The record that the bytes tell, if they tell one.
@@ -73,7 +76,7 @@ fn records_of<A: Allocator + Copy, B: Allocator>(
         if rest.is_empty() {
             return Some(records);
         }
-        let (spelled, after) = read_record(alloc, config.passes(), rest).ok()?;
+        let (spelled, after) = read_record(alloc, Version::Two, config.passes(), rest).ok()?;
         records.push(typed(config, spelled)?).ok()?;
         rest = after;
     }
@@ -120,7 +123,7 @@ fn the_example_is_written(rt: HostRuntime) {
 
 #[test]
 fn each_event_is_written(rt: HostRuntime) {
-    assert!(rt; is_written_again(rt.alloc(), LARGE, EACH, 25));
+    assert!(rt; is_written_again(rt.alloc(), LARGE, EACH, 27));
 }
 
 fn record_of<A: Allocator + Copy>(alloc: A, pass: u16, event: Event<A>, reply: Reply) -> Record<A> {

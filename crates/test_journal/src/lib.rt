@@ -2,6 +2,8 @@
 #![tactic(auto)]
 
 #[cfg(test)]
+mod dirty_tracking;
+#[cfg(test)]
 mod heads;
 #[cfg(test)]
 mod journals;

@@ -2,7 +2,7 @@
 
 use crate::records::is_torn;
 use iofd_words::{Event, FileNo, Iova, ObjId, PinRequest};
-use journal_audit_bytes::{SpelledRecord, SpelledReply, read_record};
+use journal_audit_bytes::{SpelledRecord, SpelledReply, Version, read_record};
 use std::alloc::Allocator;
 
 // Pass 0, each of access object 2 of file 1, and Done: an AccessPin of 0x2000 bytes from 0x1000 on, for writes too; an
@@ -57,7 +57,7 @@ fn is_of_pins<A: Allocator>(record: &SpelledRecord<A>, place: u8) -> bool {
 
 // Whether the bytes begin with that record, with so many bytes after it.
 fn reads_pin<A: Allocator + Copy>(alloc: A, bytes: &[u8], place: u8, left: usize) -> bool {
-    match read_record(alloc, 1, bytes) {
+    match read_record(alloc, Version::Two, 1, bytes) {
         Ok((record, rest)) => is_of_pins(&record, place) && rest.len() == left,
         Err(_) => false,
     }

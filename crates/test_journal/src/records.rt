@@ -1,7 +1,7 @@
 //! Records worked by hand: a user is given two pages, an access object comes and goes, and one that has lists.
 
 use iofd_words::{Event, FileNo, FrameNo, IovaRange, ObjId, PassNo, UserNo};
-use journal_audit_bytes::{ReadError, SpelledRecord, SpelledReply, read_record};
+use journal_audit_bytes::{ReadError, SpelledRecord, SpelledReply, Version, read_record};
 use std::alloc::Allocator;
 
 // Pass 0, a UserMap of user 1 at 0x10000 that was answered frame 0, and one at 0x11000 that was answered frame 1.
@@ -22,15 +22,25 @@ fn is_user_map<A: Allocator>(record: &SpelledRecord<A>, va: u64, frame: u32) -> 
 
 // Whether the bytes begin with a UserMap at this address that was answered this frame, with so many bytes after it.
 fn reads<A: Allocator + Copy>(alloc: A, bytes: &[u8], va: u64, frame: u32, left: usize) -> bool {
-    match read_record(alloc, 1, bytes) {
+    match read_record(alloc, Version::Two, 1, bytes) {
         Ok((record, rest)) => is_user_map(&record, va, frame) && rest.len() == left,
         Err(_) => false,
     }
 }
 
-// Whether the bytes begin with no record, where there are so many passes.
+// Whether the bytes begin with no record of version 2, where there are so many passes.
 pub fn is_torn<A: Allocator + Copy>(alloc: A, passes: u16, bytes: &[u8]) -> bool {
-    match read_record(alloc, passes, bytes) {
+    is_torn_in(alloc, Version::Two, passes, bytes)
+}
+
+// The same of a version.
+pub fn is_torn_in<A: Allocator + Copy>(
+    alloc: A,
+    version: Version,
+    passes: u16,
+    bytes: &[u8],
+) -> bool {
+    match read_record(alloc, version, passes, bytes) {
         Ok(_) => false,
         Err(error) => error == ReadError::Torn,
     }
@@ -69,7 +79,7 @@ fn is_page_1(ranges: &[IovaRange]) -> bool {
 }
 
 fn reads_lists<A: Allocator + Copy>(alloc: A) -> bool {
-    match read_record(alloc, 1, WITH_LISTS) {
+    match read_record(alloc, Version::Two, 1, WITH_LISTS) {
         Ok((record, rest)) => has_lists(&record) && rest.is_empty(),
         Err(_) => false,
     }
@@ -97,7 +107,7 @@ fn is_of_accesses<A: Allocator>(record: &SpelledRecord<A>, place: u8) -> bool {
 
 // Whether the bytes begin with that record, with so many bytes after it.
 fn reads_access<A: Allocator + Copy>(alloc: A, bytes: &[u8], place: u8, left: usize) -> bool {
-    match read_record(alloc, 1, bytes) {
+    match read_record(alloc, Version::Two, 1, bytes) {
         Ok((record, rest)) => is_of_accesses(&record, place) && rest.len() == left,
         Err(_) => false,
     }

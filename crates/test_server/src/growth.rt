@@ -2,7 +2,7 @@
 
 use crate::scripts::{
     ACCESS, BOUND, COPIED, COPIES, EMPTIED, NOTICED, ONE_SPACE, ONE_TABLE, PINNED, PORT, Parts,
-    RANGES, SPACES, Script, TAKEN_DOWN, TWO_TABLES,
+    RANGES, SPACES, Script, TAKEN_DOWN, TRACKED, TWO_TABLES,
 };
 use crate::steps::{Step, answered, config, event, read};
 use iofd_words::{Answer, Config, NoMemory, Query, Reply, UserNo};
@@ -157,7 +157,7 @@ fn grows(alloc: Global, (pool, memory, parts): Run) -> bool {
     }
 }
 
-static OF_ONE_TABLE: Run = (5, 43008, &[(ONE_TABLE, 8)]);
+static OF_ONE_TABLE: Run = (5, 45056, &[(ONE_TABLE, 8)]);
 
 #[test]
 fn a_refused_growth_changes_nothing(rt: HostRuntime) {
@@ -197,4 +197,11 @@ static OF_A_PORT: Run = (5, 43008, &[(BOUND, 0), (PORT, 0)]);
 #[test]
 fn a_port_is_told_turns_and_translations(rt: HostRuntime) {
     assert!(rt; grows(rt.alloc(), OF_A_PORT));
+}
+
+static OF_MARKS: Run = (5, 45056, &[(BOUND, 0), (TRACKED, 3)]);
+
+#[test]
+fn a_refused_growth_leaves_no_mark(rt: HostRuntime) {
+    assert!(rt; grows(rt.alloc(), OF_MARKS));
 }

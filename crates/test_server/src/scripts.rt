@@ -2,7 +2,7 @@
 
 use crate::steps::{
     AGAIN, ATTACHED, BARRED, FIRST, IN_USE, NARROW, NO_FRAME, NO_SPAN, NOT_HELD, SECOND, Step,
-    UNKNOWN, WIDE,
+    UNKNOWN, UNTRACKED, WIDE,
 };
 use iofd_words::{AccessKind, DeviceNo, Fault, FaultReason, FrameNo, Iova, ObjId, Reply, SourceId};
 
@@ -191,6 +191,30 @@ pub(crate) const PORT: Script = &[
     (Step::KeptRead(0x1ffe, 0), BARRED),
     (Step::Detach(NARROW), Reply::Done),
     (Step::Turns(NARROW), Reply::Bytes(5)),
+];
+
+/// The page that the device writes is marked, where it wasn't before. Turning tracking on, and the first mark, may want
+/// for memory; a second write, a report and turning it off don't.
+pub(crate) const TRACKED: Script = &[
+    (Step::Track(true), UNKNOWN),
+    (Step::Attach(NARROW, 1), Reply::Id(ObjId(3))),
+    (Step::Report, UNTRACKED),
+    (Step::Track(true), Reply::Done),
+    (Step::Report, Reply::Dirty([0; 4])),
+    (Step::Write(NARROW, 0x1ffe), Reply::Passed(FrameNo(0))),
+    (Step::Write(NARROW, 0x1ffe), Reply::Passed(FrameNo(0))),
+    (Step::Report, Reply::Dirty([1, 0, 0, 0])),
+    (Step::Clear, Reply::Dirty([1, 0, 0, 0])),
+    (Step::Clear, Reply::Dirty([0; 4])),
+    (Step::Write(NARROW, 0x1ffe), Reply::Passed(FrameNo(0))),
+    (Step::Track(true), Reply::Done),
+    (Step::Report, Reply::Dirty([0; 4])),
+    (Step::Track(false), Reply::Done),
+    (Step::Write(NARROW, 0x1ffe), Reply::Passed(FrameNo(0))),
+    (Step::Report, UNTRACKED),
+    (Step::Clear, UNTRACKED),
+    (Step::Detach(NARROW), Reply::Done),
+    (Step::Report, UNKNOWN),
 ];
 
 /// A page that is mapped, and the device.

@@ -2,9 +2,9 @@
 
 use iofd_words::{
     AccessKind, Act, Answer, Burst, CallError, Cause, Config, CopyRequest, DeviceConfig, DeviceNo,
-    Errno, Event, FileNo, FrameNo, HwptRequest, Iova, IovaRange, MapFlags, MapRequest, ObjId,
-    PassNo, PinRequest, Query, RangeList, Refusal, Reply, Rights, SourceId, Span, SpanList,
-    UnmapRequest, UserNo, Width,
+    DirtyRequest, Errno, Event, FileNo, FrameNo, HwptRequest, Iova, IovaRange, MapFlags,
+    MapRequest, ObjId, PassNo, PinRequest, Query, RangeList, Refusal, Reply, Rights, SourceId,
+    Span, SpanList, UnmapRequest, UserNo, Width,
 };
 use iommufd_core::Core;
 use std::alloc::{Allocator, Global};
@@ -78,6 +78,10 @@ pub(crate) enum Step {
     AccessWrite(u32, u64),
     Destroy(FileNo, u32),
     Close(FileNo),
+    /// The pages that are written through page table 3 are tracked, or no more.
+    Track(bool),
+    /// A report of the page at 0x1000 of page table 3 that clears.
+    Clear,
     /// The narrow device writes two bytes of the page at 0x1000 by this frame, which it has cached.
     Cached(u32),
     /// The question for ranges, answered by the last address of the only one.
@@ -95,6 +99,8 @@ pub(crate) enum Step {
     Walk(u64),
     /// The narrow device reads the two bytes that are written, at this address and at this frame, which it kept: Done.
     KeptRead(u64, u32),
+    /// The same report, which doesn't clear: a question, answered by its words.
+    Report,
 }
 
 fn map(iova: u64) -> MapRequest {
@@ -141,6 +147,13 @@ fn table(device: u32) -> HwptRequest {
     }
 }
 
+/// The report of the page at 0x1000.
+const REPORT: DirtyRequest = DirtyRequest {
+    hwpt: ObjId(3),
+    iova: Iova(0x1000),
+    length: 0x1000,
+};
+
 const ALLOWED: [IovaRange; 2] = [
     IovaRange {
         start: 0,
@@ -163,7 +176,7 @@ fn allowed<A: Allocator + Copy>(alloc: A) -> Option<Event<A>> {
     Some(Event::AllowIovas(FIRST, ObjId(1), ranges))
 }
 
-/// The event of a step, its list in memory of this allocator; None of the last eight steps, and where there is no
+/// The event of a step, its list in memory of this allocator; None of the last nine steps, and where there is no
 /// memory.
 pub(crate) fn event<A: Allocator + Copy>(alloc: A, step: Step) -> Option<Event<A>> {
     let bytes = bytes()?;
@@ -189,6 +202,8 @@ pub(crate) fn event<A: Allocator + Copy>(alloc: A, step: Step) -> Option<Event<A
         Step::AccessWrite(id, iova) => Event::AccessWrite(FIRST, ObjId(id), Iova(iova), bytes),
         Step::Destroy(file, id) => Event::Destroy(file, ObjId(id)),
         Step::Close(file) => Event::Close(file),
+        Step::Track(on) => Event::DirtyEnable(FIRST, ObjId(3), on),
+        Step::Clear => Event::DirtyClear(FIRST, REPORT),
         Step::Cached(_)
         | Step::Ranges
         | Step::AttachedTo(_)
@@ -196,7 +211,8 @@ pub(crate) fn event<A: Allocator + Copy>(alloc: A, step: Step) -> Option<Event<A
         | Step::Notices(_)
         | Step::Turns(_)
         | Step::Walk(_)
-        | Step::KeptRead(..) => return None,
+        | Step::KeptRead(..)
+        | Step::Report => return None,
     })
 }
 
@@ -214,6 +230,10 @@ pub(crate) const NO_SPAN: Reply = Reply::Refused(Refusal { cause: Cause::Span })
 
 pub(crate) const NOT_HELD: Reply = Reply::Refused(Refusal {
     cause: Cause::NotHeld,
+});
+
+pub(crate) const UNTRACKED: Reply = Reply::Refused(Refusal {
+    cause: Cause::Tracking,
 });
 
 pub(crate) const NO_FRAME: Reply = Reply::Refused(Refusal {
@@ -357,7 +377,20 @@ fn kept<A: Allocator>(core: &Core<A>, iova: u64, frame: FrameNo) -> Reply {
     }
 }
 
-/// What one of the last eight steps is answered; None where it wants for memory.
+/// The words of the report.
+fn reported<A: Allocator>(core: &Core<A>) -> Reply {
+    let query = Query::Dirty {
+        file: FIRST,
+        request: REPORT,
+    };
+    match core.look(&query) {
+        Answer::Dirty(words) => Reply::Dirty(words),
+        Answer::Refused(refusal) => Reply::Refused(refusal),
+        _ => BARRED,
+    }
+}
+
+/// What one of the last nine steps is answered; None where it wants for memory.
 fn questioned<A: Allocator + Copy>(core: &mut Core<A>, step: Step) -> Option<Reply> {
     match step {
         Step::Cached(frame) => written(core, FrameNo(frame)),
@@ -368,6 +401,7 @@ fn questioned<A: Allocator + Copy>(core: &mut Core<A>, step: Step) -> Option<Rep
         Step::Turns(device) => Some(turns_of(core, device)),
         Step::Walk(iova) => Some(translated(core, iova)),
         Step::KeptRead(iova, frame) => Some(kept(core, iova, FrameNo(frame))),
+        Step::Report => Some(reported(core)),
         _ => None,
     }
 }

@@ -1,6 +1,7 @@
 use Rattle.std.proofs.Common.{◌∙◌}
 use Rattle.event_destroy.proofs.FileGone.{areas_may, can_remove, close_moves, shows_closed}
 use Rattle.server_state.proofs.PageTables.{tables_shown}
+use Rattle.server_state.proofs.DirtyMoves.{dirty_closed}
 use Rattle.event_destroy.proofs.close.commit.Goals as goal
 
 pub reserve_given-requires : goal.reserve_given-requires
@@ -35,5 +36,7 @@ returns-clause-ok g c = λ at via w tidy shows none may.
     c.remove_areas.new.memory c.remove_areas.new.pool c.remove_areas.ensures
     c.remove_file-2.new.self c.remove_file-2.new.pool c.remove_file-2.ensures.tables c.remove_file-2.ensures.stand
     c.remove_file-2.ensures.pool
-    c.close_table.new.table c.detach_all.new.attachments c.remove_file.new.self c.close_table.ensures
-    c.detach_all.ensures c.remove_file.ensures)
+    c.close_table.new.table c.detach_all.new.attachments c.remove_file.new.self c.stop_file.new.self
+    c.close_table.ensures c.detach_all.ensures c.remove_file.ensures
+    (dirty_closed w.tracked c.args.state.now.dirty c.stop_file.new.self shows.dirty c.args.file
+    c.stop_file.ensures.tracks c.stop_file.ensures.marks))

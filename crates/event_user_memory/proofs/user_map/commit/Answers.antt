@@ -76,6 +76,7 @@ returns-clause-ok g c = λ at via w tidy shows none may.
       record {
         settings = shows.settings;
         limits = c.map_page.ensures.limits ∙ shows.limits;
+        dirty = shows.dirty;
         allowed = shows.allowed;
         objects = shows.objects;
         devices = shows.devices;

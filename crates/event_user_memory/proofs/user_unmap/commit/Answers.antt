@@ -70,6 +70,7 @@ returns g c = λ at w tidy shows none.
       record {
         settings = shows.settings;
         limits = c.unmap_page.ensures.limits ∙ shows.limits;
+        dirty = shows.dirty;
         allowed = shows.allowed;
         objects = shows.objects;
         devices = shows.devices;

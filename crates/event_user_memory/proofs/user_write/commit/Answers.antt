@@ -69,6 +69,7 @@ returns-in-Some g c = λ at w tidy shows none.
       record {
         settings = shows.settings;
         limits = shows.limits;
+        dirty = shows.dirty;
         allowed = shows.allowed;
         objects = shows.objects;
         devices = shows.devices;

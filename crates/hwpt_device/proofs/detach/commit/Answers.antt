@@ -1,6 +1,7 @@
 use Rattle.std.proofs.Common.{sym, ◌∙◌}
 use Rattle.hwpt_device.proofs.DetachedShown.{last_told, may_unpin, never_astray, never_lost, shows_detached, shows_lost}
 use Rattle.hwpt_device.proofs.DetachedShown.{takes_it}
+use Rattle.server_state.proofs.DirtyMoves.{dirty_stopped}
 use Rattle.server_state.proofs.Errors.{on_err_same}
 use Rattle.hwpt_device.proofs.detach.commit.Goals as goal
 
@@ -45,7 +46,7 @@ remove_page_table-requires-clause-pins g c = λ table tables pool gone.
     may_unpin c.requires.granted.at known.world c.args.state.now c.remove.new.list c.args.device
     c.in-Some.attachment.now c.in-Some-space_of.field-0-0 c.in-Some-space_of.ioas c.pay.new.table known.tidy
     known.shows known.none (sym c.in-Some.ensures) (sym c.in-Some-space_of.ensures) c.pay.ensures c.remove.ensures
-    c.one_fewer.new.table c.one_fewer.ensures.rows c.one_fewer.ensures.others table tables pool
+    c.one_fewer.new.table c.one_fewer.ensures.rows c.one_fewer.ensures.others c.stop.new.self table tables pool
     (sym told ∙ sym c.if-goes.ensures) gone
 
 pub returns-then-goes-clause-ok : goal.returns-then-goes-clause-ok
@@ -57,7 +58,9 @@ returns-then-goes-clause-ok g c = λ at via w tidy shows none may.
     shows_lost at w c.args.state.now c.remove.new.list c.args.device c.in-Some.attachment.now
     c.in-Some-space_of.field-0-0 c.in-Some-space_of.ioas c.pay.new.table tidy shows none (sym c.in-Some.ensures)
     (sym c.in-Some-space_of.ensures) c.pay.ensures c.remove.ensures c.one_fewer.new.table c.one_fewer.ensures.rows
-    c.one_fewer.ensures.others c.remove_page_table.new.state (sym told ∙ sym c.if-goes.ensures)
+    c.one_fewer.ensures.others c.remove_page_table.new.state c.stop.new.self
+    (dirty_stopped w.tracked c.args.state.now.dirty c.stop.new.self shows.dirty c.in-Some.attachment.now.file
+    c.in-Some.attachment.now.hwpt c.stop.ensures.tracks c.stop.ensures.marks) (sym told ∙ sym c.if-goes.ensures)
     c.remove_page_table.ensures.state
     c.reserve_where.new.given.items c.remove_page_table.new.given.items (c.reserve_where.ensures.same ∙ c.requires.none)
     c.remove_page_table.ensures.given via

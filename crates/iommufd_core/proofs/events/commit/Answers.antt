@@ -148,11 +148,38 @@ returns-in-UserMap-clause-err g c =
 
 pub returns-in-DeviceWrite-clause-ok : goal.returns-in-DeviceWrite-clause-ok
 returns-in-DeviceWrite-clause-ok g c =
-    subst (λ (e : Event _). MovingSteps c.args.at e c.args.act.now.via c.args.state.now c.commit-in-DeviceWrite.result
+    if_ok c.commit-in-DeviceWrite.result _ _
+    (λ reply steps. subst (λ (e : Event _). MovingSteps c.args.at e c.args.act.now.via c.args.state.now reply
     c.args.taken.now.items c.args.given.now.items c.commit-in-DeviceWrite.new.state) (sym c.in-DeviceWrite.is)
-    (none_moved c.args.at _ c.args.act.now.via c.args.state.now c.commit-in-DeviceWrite.new.state
-    c.commit-in-DeviceWrite.result c.args.taken.now.items c.args.given.now.items c.requires.none_taken
-    c.requires.none_given (λ w. tt) (λ w. tt) (λ left t. refl) (c.commit-in-DeviceWrite.ensures c.args.at))
+    (none_moved c.args.at _ c.args.act.now.via c.args.state.now c.commit-in-DeviceWrite.new.state reply
+    c.args.taken.now.items c.args.given.now.items c.requires.none_taken c.requires.none_given (λ w. tt) (λ w. tt)
+    (λ left t. refl) (steps c.args.at)))
+    c.commit-in-DeviceWrite.ensures.ok
+
+pub returns-in-DeviceWrite-clause-err : goal.returns-in-DeviceWrite-clause-err
+returns-in-DeviceWrite-clause-err g c =
+    on_err c.commit-in-DeviceWrite.result _ _ (λ same w tidy shows. same w shows) c.commit-in-DeviceWrite.ensures.err
+
+pub returns-in-DirtyEnable-clause-ok : goal.returns-in-DirtyEnable-clause-ok
+returns-in-DirtyEnable-clause-ok g c = if_ok c.commit-in-DirtyEnable.result _ _
+    (λ reply steps. subst (λ (e : Event _). MovingSteps c.args.at e c.args.act.now.via c.args.state.now reply
+    c.args.taken.now.items c.args.given.now.items c.commit-in-DirtyEnable.new.state) (sym c.in-DirtyEnable.is)
+    (none_chosen c.args.at _ c.args.act.now.via c.args.state.now c.commit-in-DirtyEnable.new.state reply
+    c.args.taken.now.items c.args.given.now.items c.requires.none_taken c.requires.none_given (λ w. tt) (λ w. tt)
+    (λ left t. refl) (steps c.args.at) (λ w. tt)))
+    c.commit-in-DirtyEnable.ensures.ok
+
+pub returns-in-DirtyEnable-clause-err : goal.returns-in-DirtyEnable-clause-err
+returns-in-DirtyEnable-clause-err g c =
+    on_err c.commit-in-DirtyEnable.result _ _ (λ same w tidy shows. same w shows) c.commit-in-DirtyEnable.ensures.err
+
+pub returns-in-DirtyClear-clause-ok : goal.returns-in-DirtyClear-clause-ok
+returns-in-DirtyClear-clause-ok g c =
+    subst (λ (e : Event _). MovingSteps c.args.at e c.args.act.now.via c.args.state.now c.commit-in-DirtyClear.result
+    c.args.taken.now.items c.args.given.now.items c.commit-in-DirtyClear.new.state) (sym c.in-DirtyClear.is)
+    (none_chosen c.args.at _ c.args.act.now.via c.args.state.now c.commit-in-DirtyClear.new.state
+    c.commit-in-DirtyClear.result c.args.taken.now.items c.args.given.now.items c.requires.none_taken
+    c.requires.none_given (λ w. tt) (λ w. tt) (λ left t. refl) (c.commit-in-DirtyClear.ensures c.args.at) (λ w. tt))
 
 -- ---- events that take frames, or give them back
 
@@ -254,6 +281,16 @@ pub returns-in-Close-clause-memory : goal.returns-in-Close-clause-memory
 returns-in-Close-clause-memory g c = on_err c.commit-in-Close.result _ _
     (takes_as c.args.state.now _ _ c.in-Close.is) c.commit-in-Close.ensures.memory
 
+-- ---- where a page may be marked
+
+pub returns-in-DeviceWrite-clause-memory : goal.returns-in-DeviceWrite-clause-memory
+returns-in-DeviceWrite-clause-memory g c = on_err c.commit-in-DeviceWrite.result _ _
+    (takes_as c.args.state.now _ _ c.in-DeviceWrite.is) c.commit-in-DeviceWrite.ensures.memory
+
+pub returns-in-DirtyEnable-clause-memory : goal.returns-in-DirtyEnable-clause-memory
+returns-in-DirtyEnable-clause-memory g c = on_err c.commit-in-DirtyEnable.result _ _
+    (takes_as c.args.state.now _ _ c.in-DirtyEnable.is) c.commit-in-DirtyEnable.ensures.memory
+
 -- ---- each is granted, as the event that it is
 
 pub commit-requires-in-Map-clause-granted : goal.commit-requires-in-Map-clause-granted
@@ -343,6 +380,10 @@ commit-requires-in-Flush g c =
 pub commit-requires-in-DeviceWrite : goal.commit-requires-in-DeviceWrite
 commit-requires-in-DeviceWrite g c =
     granted_via c.args.at _ _ c.args.act.now.via c.args.state.now c.in-DeviceWrite.is c.requires.granted
+
+pub commit-requires-in-DirtyClear : goal.commit-requires-in-DirtyClear
+commit-requires-in-DirtyClear g c =
+    granted_as c.args.at _ _ c.args.act.now.via c.args.state.now c.in-DirtyClear.is c.requires.granted
 
 -- ---- want of memory, by which something comes
 

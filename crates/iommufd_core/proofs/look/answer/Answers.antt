@@ -128,3 +128,10 @@ cached-requires-clause-passes g c = rw c.in-CachedRead.is at c.requires.may
 pub returns-in-CachedRead : goal.returns-in-CachedRead
 returns-in-CachedRead g c =
     rw c.in-CachedRead.is (λ at w records tidy shows turns. c.cached.ensures at w records tidy shows)
+
+pub report-requires : goal.report-requires
+report-requires g c = subst (λ (query : Query). IsAsked query c.args.state.now) c.in-Dirty.is c.requires.asked
+
+pub returns-in-Dirty : goal.returns-in-Dirty
+returns-in-Dirty g c =
+    rw c.in-Dirty.is (λ at w records tidy shows turns. c.report.ensures at w records tidy shows)

@@ -27,6 +27,10 @@ returns-clause-shows g c =
       users = rw c.in_ok-new-2.ensures.pages (record { pages = λ user page. refl; counts = λ test. refl });
       pins = pins_opened c.in_ok-new-2.field-0 c.in_ok-new-2.ensures.objects;
       access_pins = rw c.new-8.ensures access_pins_opened;
+      dirty = record {
+        tracks = λ file hwpt. sym (c.new-9.ensures.tracks file hwpt);
+        marks = λ file hwpt page. sym (c.new-9.ensures.marks file hwpt page);
+      };
       frames = rw (c.in_ok-new-3.ensures, c.pool-pool.ensures.value)
           (frames_opened c.args.config.now.pool c.in_ok-new-2.field-0 c.in_ok-new-2.ensures.pages
           c.in_ok-new-2.ensures.objects);

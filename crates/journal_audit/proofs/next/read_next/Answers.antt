@@ -11,7 +11,7 @@ pub returns-in-Err-Torn : goal.returns-in-Err-Torn
 returns-in-Err-Torn g c = (
   λ r text rest spells is.
       none_read _ _ c.in-Err-Torn.field-0-is (c.in-Err-Torn.ensures.only r text rest
-      (subst (λ n. Spells n r text)
+      (subst (λ n. Spells c.args.version n r text)
       (sym (c.passes.ensures ∙ ap (λ (w : World). w.settings.passes) c.world.view_is)) spells) is),
   refl,
 )
@@ -20,8 +20,10 @@ pub returns-in_ok-lawful-in-Ok : goal.returns-in_ok-lawful-in-Ok
 returns-in_ok-lawful-in-Ok g c =
     let (text, spells, is) = c.in-Ok.ensures.found in
     let passes = c.passes.ensures ∙ ap (λ (w : World). w.settings.passes) c.world.view_is in
-    subst (λ (n : Next). IsNext g.row.A.Denot c.args.at c.args.world.now c.judge.new.world c.args.bytes.now
+    subst (λ (n : Next). IsNext g.row.A.Denot c.args.version c.args.at c.args.world.now c.judge.new.world
+    c.args.bytes.now
     c.in-Ok.rest.now n) (sym c.next_of.ensures)
-    (told_next g.row.A.Denot c.args.at c.args.world.now c.judge.new.world c.args.bytes.now c.in-Ok.rest.now
+    (told_next g.row.A.Denot c.args.version c.args.at c.args.world.now c.judge.new.world c.args.bytes.now
+    c.in-Ok.rest.now
     (raw_of c.in-Ok.spelled) text c.in_ok-lawful-in-Ok.lawful
-    (subst (λ n. Spells n (raw_of c.in-Ok.spelled) text) passes spells) is c.in_ok-lawful-in-Ok.ensures)
+    (subst (λ n. Spells c.args.version n (raw_of c.in-Ok.spelled) text) passes spells) is c.in_ok-lawful-in-Ok.ensures)

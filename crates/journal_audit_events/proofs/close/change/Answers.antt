@@ -18,7 +18,8 @@ keep_pinned-requires g c =
 pub returns : goal.returns
 returns g c = IfOk-weaker c.keep_pinned.result _ _
     (λ x is. close_done _ c.args.at _ c.args.world.now _ c.args.file c.args.reply _ _ _ _ c.world.view_is
-    c.requires.kept c.requires.granted c.in-Done.is refl c.in_ok-push.ensures.items c.remove_of_file.ensures
-    c.deref-2.ensures.value c.in_ok-keep_used.ensures c.remove_of_file-2.ensures c.remove_of_file-3.ensures
+    c.requires.kept c.requires.granted c.in-Done.is refl c.in_ok-push.ensures.items c.stop_file.ensures
+    c.remove_of_file.ensures c.deref-2.ensures.value c.in_ok-keep_used.ensures c.remove_of_file-2.ensures
+    c.remove_of_file-3.ensures
     c.remove_of_file-4.ensures c.deref-3.ensures.value c.deref-4.ensures.value c.deref-5.ensures.value is)
     c.keep_pinned.ensures

@@ -17,6 +17,6 @@ keep_pinned-requires g c =
 pub returns : goal.returns
 returns g c = IfOk-weaker c.keep_pinned.result _ _
     (λ x is. destroy_done _ c.args.at _ c.args.world.now _ c.args.file c.args.id c.args.reply _ _ _ _ c.world.view_is
-    c.requires.kept c.requires.granted c.in-Done.is refl c.remove_of.ensures c.deref.ensures.value
+    c.requires.kept c.requires.granted c.in-Done.is refl c.stop.ensures c.remove_of.ensures c.deref.ensures.value
     c.in_ok-keep_used.ensures c.remove.ensures c.remove_of-2.ensures c.deref-2.ensures.value c.deref-3.ensures.value
     c.deref-4.ensures.value is) c.keep_pinned.ensures

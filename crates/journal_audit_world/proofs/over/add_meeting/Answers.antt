@@ -1,4 +1,4 @@
-use Rattle.std.proofs.Common.{◌||◌, ◌&&◌, ℕ}
+use Rattle.std.proofs.Common.{◌||◌, ◌&&◌}
 use Rattle.iofd_words.specs.Areas.{is_of}
 use Rattle.iofd_words.specs.Span.{meets}
 use Rattle.iofd_words.specs.declared.rows.Area.{Area}

@@ -3,7 +3,7 @@ use Rattle.std.specs.BTreeMap.{is_at}
 use Rattle.std.specs.Map.{lookup}
 use Rattle.std.specs.Ordering.{nat_cmp, ordering_then}
 use Rattle.std.specs.Prelude.{IsSome}
-use Rattle.dirty_bitmap.specs.Dirty.{is_page_of}
+use Rattle.iofd_words.specs.DirtyWords.{is_page_of}
 use Rattle.dirty_bitmap.specs.Tracking.{Tables, is_dirty, is_table, is_tracked, marks_of}
 use Rattle.dirty_bitmap.proofs.Tracked.{Puts, changed_tracks, cleared_tables, puts, uncleared_tables}
 use Rattle.dirty_bitmap.proofs.dirty_tables.DirtyTables.clear.Goals as goal

@@ -1,5 +1,5 @@
 use Rattle.std.proofs.Common.{ap, ◌∙◌}
-use Rattle.dirty_bitmap.specs.Dirty.{dirty_words}
+use Rattle.iofd_words.specs.DirtyWords.{dirty_words}
 use Rattle.dirty_bitmap.specs.Tracking.{is_marked_in, marks_of}
 use Rattle.dirty_bitmap.proofs.Reports.{zeros_are}
 use Rattle.dirty_bitmap.proofs.dirty_tables.DirtyTables.report.Goals as goal

@@ -116,7 +116,7 @@ returns-in_default-answer-clause-memory g c =
     rw (← c.self.view_is) (inr (
       sym (same_refusal (world_of old.config records) old c.self.invariant.shows tidy.tabled.owned
           c.args.act.now.event) ∙ wants.0,
-      takes_in (world_of old.config records) old c.self.invariant.shows c.args.act.now.event wants.1,
+      takes_in (world_of old.config records) old c.self.invariant.shows tidy.tabled.owned c.args.act.now.event wants.1,
     ))
 
 pub answer-requires-clause-called : goal.answer-requires-clause-called

@@ -1,0 +1,3 @@
+pub mod DirtyRecords
+pub mod DirtyScript
+pub mod Words

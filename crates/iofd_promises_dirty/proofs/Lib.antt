@@ -1,0 +1,13 @@
+pub mod Bits
+pub mod Clearing
+pub mod Once
+pub mod OneMore
+pub mod Origins
+pub mod Records
+pub mod Rows
+pub mod Runs
+pub mod Spans
+pub mod There
+pub mod Told
+pub mod TrackedMoves
+pub mod Turned

@@ -1,0 +1,15 @@
+use Rattle.std.proofs.Common.{◌≡◌, ◌∙◌, ap, sym, set, arith}
+use Rattle.std.proofs.lemmas.List.Edits.{map_over_more}
+use Rattle.iofd_words.specs.Dirty.{TrackedTable, reported_span}
+use Rattle.journal_audit_world.specs.Tracked.{without_pages}
+use Rattle.journal_audit_world.proofs.tracked.clear.Goals as goal
+
+pub loop-row-preserved : goal.loop-row-preserved
+loop-row-preserved g c =
+    let f : TrackedTable → TrackedTable =
+    without_pages c.args.file c.args.request.hwpt (reported_span c.args.request) in
+    let items = c.loop-row.row-items in
+    let step = map_over_more f c.deref_mut-row-items.result.now items c.loop-row.row-index c.row-item.result
+    (omega arith) c.loop-row.invariant c.row-item.is in
+    let new : c.clear_one.new.row ≡ f c.row-item.result = c.clear_one.ensures ∙ ap f (sym c.row-item.is) in
+    ap (λ (t : TrackedTable). set items c.loop-row.row-index t) new ∙ step
