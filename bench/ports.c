@@ -115,7 +115,8 @@ static int run(const char *name, int is_port, uint16_t cache, double seconds) {
     const uint16_t files[] = { 1 };
     const struct defnulk_device devices[READERS] = { { 8, 39, 0 }, { 16, 39, 0 }, { 24, 39, 0 }, { 32, 39, 0 } };
     const struct defnulk_config config = {
-        users, 1, files, 1, devices, READERS, PAGES + 16, READERS + 1, READERS + 1, cache
+        .users = users, .user_count = 1, .files = files, .file_count = 1, .devices = devices, .device_count = READERS,
+        .pool = PAGES + 16, .passes = READERS + 1, .lanes = READERS + 1, .cache = cache
     };
     struct defnulk_handle caller = DEFNULK_CLOSED;
     int status = defnulk_open(&config, &caller) != 0 ? 4 : set_up(&caller);

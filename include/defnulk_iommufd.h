@@ -21,8 +21,8 @@
  *
  * Every other errno is the server's: a refusal, with the number of its cause in outcome.cause (those of `Cause` in
  * crates/iofd_words/src/refusal.rt), which changed nothing, and is a record but for a question; or a denied access,
- * -EFAULT with the reason in outcome.fault. For defnulk_ioctl, which has no outcome, the errno is what the kernel's call
- * answers.
+ * -EFAULT with the reason in outcome.fault. A few calls have no outcome, and say themselves what an errno means; that
+ * of defnulk_ioctl is what the kernel's call answers.
  *
  * HANDLES. A handle begins as DEFNULK_CLOSED, and is from then on only what these calls made of it: its bytes are
  * never copied, compared or written by anybody else. (It may be moved: the old place is then DEFNULK_CLOSED again.)
@@ -33,7 +33,7 @@
  * PTRDIFF_MAX bytes, that arrays, handles and places for results don't overlap, and that a handle is open and of the
  * right kind. Nothing can tell a pointer to too little memory, a copied handle, one with other bytes in it, or two
  * calls at once by one handle. The functions defnulk_raw_.. test none of it, and are called through those below
- * alone.
+ * alone, or from a language whose own rules say the same of its references (examples/rust).
  *
  * Not from a signal handler, nor in a forked child. Memory is taken by malloc, realloc and free, which have to align
  * to 16 bytes.
@@ -62,8 +62,8 @@ struct defnulk_handle {
 
 #define DEFNULK_CLOSED { 0 }
 
-/* What a call tells beside its result. Each call that takes one writes it, unless a null pointer, a length or an overlap
-   is refused before: then it stays as it was. */
+/* What a call tells beside its result. Each call that takes one writes it, unless a null pointer, a length or an
+   overlap is refused before: then it stays as it was. */
 struct defnulk_outcome {
     uint64_t at;    /* the place of the last record that it made, counted from 0, where made is 1 */
     uint64_t value; /* the number that it answers, as each call says; or 0 */
@@ -79,7 +79,16 @@ struct defnulk_device {
     uint8_t x86;     /* not 0 where it has the interrupt range of x86, 0xfee00000 to 0xfeefffff */
 };
 
-/* What a server is opened with. The arrays are read, and not kept. */
+/* Addresses that a device keeps for itself, as those by which it signals interrupts: while it is attached, nothing can
+   be mapped there. They are whole pages: `first` is a multiple of 4096, and `last`, the last of them, one below one. */
+struct defnulk_reserved {
+    uint64_t first;
+    uint64_t last;
+    uint16_t device; /* the device's number, from 1 on */
+};
+
+/* What a server is opened with. The arrays are read, and not kept. An initialiser that doesn't name the last two fields
+   means that no device reserves a span. */
 struct defnulk_config {
     const uint64_t *users; /* how many pinned pages each user may have, from user 1 on */
     size_t user_count;     /* 1 to 255 */
@@ -91,11 +100,27 @@ struct defnulk_config {
     uint16_t passes;       /* one for each caller's and each port's handle that is ever opened: 1 to 1024 */
     uint16_t lanes;        /* 1 to 64: as many callers may ask at once; a call that changes something takes all */
     uint16_t cache;        /* how many pages a port keeps translations of: 1 to 4096 */
+    const struct defnulk_reserved *reserved; /* of all devices, in any order; may be null where there is none */
+    size_t reserved_count; /* at most 16 for each device */
+};
+
+/* The first and the last address of an area. */
+struct defnulk_span {
+    uint64_t first;
+    uint64_t last;
+};
+
+/* Where a device has a page, and what it may do there. */
+struct defnulk_translation {
+    uint32_t frame;    /* the number of the page's frame in the pool */
+    uint8_t readable;  /* 1 where the device may read the page, or 0 */
+    uint8_t writeable; /* 1 where it may write the page, or 0 */
 };
 
 /* The exports themselves. A slice is a pointer, which isn't null even for length 0, and then a length. */
 int32_t defnulk_raw_open(uint32_t pool, const uint64_t *users, size_t user_count, const uint16_t *files,
-                         size_t file_count, const struct defnulk_device *devices, size_t device_count, uint16_t passes,
+                         size_t file_count, const struct defnulk_device *devices, size_t device_count,
+                         const struct defnulk_reserved *reserved, size_t reserved_count, uint16_t passes,
                          uint16_t lanes, uint16_t cache, struct defnulk_handle *handle);
 int32_t defnulk_raw_share(struct defnulk_handle *handle, struct defnulk_handle *other);
 int32_t defnulk_raw_port(struct defnulk_handle *handle, struct defnulk_handle *other, size_t *device);
@@ -124,12 +149,17 @@ int32_t defnulk_raw_access_write(struct defnulk_handle *handle, uint16_t file, u
                                  const uint8_t *bytes, size_t len, struct defnulk_outcome *out);
 int32_t defnulk_raw_access_read(struct defnulk_handle *handle, uint16_t file, uint32_t access, uint64_t iova,
                                 uint8_t *buffer, size_t len, struct defnulk_outcome *out);
+int32_t defnulk_raw_notices(struct defnulk_handle *handle, uint16_t file, uint32_t access, struct defnulk_span *spans,
+                            size_t count, struct defnulk_outcome *out);
 int32_t defnulk_raw_held(struct defnulk_handle *handle, uint16_t user, struct defnulk_outcome *out);
 int32_t defnulk_raw_free_frames(struct defnulk_handle *handle, struct defnulk_outcome *out);
+int32_t defnulk_raw_journal(struct defnulk_handle *handle, uint8_t *room, size_t room_len, size_t *written);
 int32_t defnulk_raw_port_read(struct defnulk_handle *handle, uint64_t iova, uint8_t *buffer, size_t len,
                               struct defnulk_outcome *out);
 int32_t defnulk_raw_port_write(struct defnulk_handle *handle, uint64_t iova, const uint8_t *bytes, size_t len,
                                struct defnulk_outcome *out);
+int32_t defnulk_raw_port_translate(struct defnulk_handle *handle, uint64_t iova, uint8_t write,
+                                   struct defnulk_translation *translation);
 int32_t defnulk_raw_port_flush(struct defnulk_handle *handle, struct defnulk_outcome *out);
 int32_t defnulk_raw_port_attach(struct defnulk_handle *handle, uint32_t pt_id, struct defnulk_outcome *out);
 int32_t defnulk_raw_port_detach(struct defnulk_handle *handle, struct defnulk_outcome *out);
@@ -142,6 +172,11 @@ static const uint8_t defnulk_no_bytes[1] = { 0 };
 /* Whether an array has so many items of a size: it isn't null, or has none, and isn't too long. */
 static inline int defnulk_is_array(const void *at, size_t count, size_t size) {
     return count <= (size_t)PTRDIFF_MAX / size && (at != NULL || count == 0);
+}
+
+/* How many bytes so many items of a size are; or SIZE_MAX, which no array has. */
+static inline size_t defnulk_size(size_t count, size_t size) {
+    return count <= (size_t)PTRDIFF_MAX / size ? count * size : SIZE_MAX;
 }
 
 /* Whether two spans of bytes have none in common. */
@@ -178,23 +213,29 @@ static inline int32_t defnulk_test(const struct defnulk_handle *handle, const vo
 /* ---- Opening and closing */
 
 /* Opens a server for a handle that is closed. The handle is then its first caller's: it has one of the server's
-   passes, all others to give, and the right to each device's port. -EINVAL: a number is outside its limits. -EBUSY:
-   the handle is open. -ENOMEM. With each the handle stays as it was. */
+   passes, all others to give, and the right to each device's port. -EINVAL: a number is outside its limits, or a
+   reserved span is of no device or not whole pages. -EBUSY: the handle is open. -ENOMEM. With each the handle stays as
+   it was. */
 static inline int32_t defnulk_open(const struct defnulk_config *config, struct defnulk_handle *handle) {
     static const struct defnulk_device none = { 0, 39, 0 };
+    static const struct defnulk_reserved no_span = { 0, 4095, 1 };
     if (config == NULL || handle == NULL || config->users == NULL || config->files == NULL
-        || (config->devices == NULL && config->device_count > 0))
+        || (config->devices == NULL && config->device_count > 0)
+        || (config->reserved == NULL && config->reserved_count > 0))
         return -EFAULT;
     if (!defnulk_is_array(config->users, config->user_count, sizeof *config->users)
         || !defnulk_is_array(config->files, config->file_count, sizeof *config->files)
         || !defnulk_is_array(config->devices, config->device_count, sizeof *config->devices)
+        || !defnulk_is_array(config->reserved, config->reserved_count, sizeof *config->reserved)
         || !defnulk_apart(handle, sizeof *handle, config->users, config->user_count * sizeof *config->users)
         || !defnulk_apart(handle, sizeof *handle, config->files, config->file_count * sizeof *config->files)
-        || !defnulk_apart(handle, sizeof *handle, config->devices, config->device_count * sizeof *config->devices))
+        || !defnulk_apart(handle, sizeof *handle, config->devices, config->device_count * sizeof *config->devices)
+        || !defnulk_apart(handle, sizeof *handle, config->reserved, config->reserved_count * sizeof *config->reserved))
         return -EINVAL;
     return defnulk_raw_open(config->pool, config->users, config->user_count, config->files, config->file_count,
-                            config->devices != NULL ? config->devices : &none, config->device_count, config->passes,
-                            config->lanes, config->cache, handle);
+                            config->devices != NULL ? config->devices : &none, config->device_count,
+                            config->reserved != NULL ? config->reserved : &no_span, config->reserved_count,
+                            config->passes, config->lanes, config->cache, handle);
 }
 
 /* Opens another handle, which is closed, for another caller of the same server, by a pass that this caller has to
@@ -318,6 +359,23 @@ static inline int32_t defnulk_free_frames(struct defnulk_handle *handle, struct 
     return fit != 0 ? fit : defnulk_raw_free_frames(handle, out);
 }
 
+/* The journal of all records so far, whichever handle made them: bytes of version 2 of docs/JOURNAL.md, of which
+   `iommufd audit` says whether a server may have made these records. They stand at the front of `room`, as far as that
+   has place, and its rest stays; `written` says how many bytes the journal has. Where these are more than room_len, the
+   call is made again with more room (other handles may make further records meanwhile). `room` may be null where
+   room_len is 0. It makes no record. -EBADF, -ENOMEM, DEFNULK_NOT_NOW; -EINVAL where a record has no spelling, which
+   none has that these calls make. With each `written` is 0, and `room` stays as it was. */
+static inline int32_t defnulk_journal(struct defnulk_handle *handle, void *room, size_t room_len, size_t *written) {
+    uint8_t none[1];
+    if (handle == NULL || (room == NULL && room_len > 0) || written == NULL)
+        return -EFAULT;
+    if (!defnulk_is_array(room, room_len, 1) || !defnulk_has_room(handle, written, sizeof *written)
+        || !defnulk_apart(handle, sizeof *handle, room, room_len)
+        || !defnulk_apart(written, sizeof *written, room, room_len))
+        return -EINVAL;
+    return defnulk_raw_journal(handle, room != NULL ? (uint8_t *)room : none, room_len, written);
+}
+
 /* ---- Access objects, by a caller's handle: pages that a driver pins, reads and writes */
 
 /* Makes an access object in the file. The value is its id. */
@@ -373,6 +431,17 @@ static inline int32_t defnulk_access_read(struct defnulk_handle *handle, uint16_
     return fit != 0 ? fit : defnulk_raw_access_read(handle, file, access, iova, (uint8_t *)buffer, len, out);
 }
 
+/* Tells the leaving areas in which it holds a pin, for which an UNMAP waits. Their spans stand at the front of `spans`,
+   by rising start, as many as that has places for; its rest stays. The value is how many there are: where that is more
+   than `count`, the call is made again with more places. `spans` may be null where `count` is 0. It makes no record.
+   With an error `spans` stays as it was. */
+static inline int32_t defnulk_notices(struct defnulk_handle *handle, uint16_t file, uint32_t access,
+                                      struct defnulk_span *spans, size_t count, struct defnulk_outcome *out) {
+    struct defnulk_span none;
+    int32_t fit = defnulk_test(handle, spans, defnulk_size(count, sizeof *spans), out);
+    return fit != 0 ? fit : defnulk_raw_notices(handle, file, access, spans != NULL ? spans : &none, count, out);
+}
+
 /* ---- Calls of a device's port */
 
 /* The device reads bytes from this address on, in pieces that are cut at pages and at 64 bytes. The value is how
@@ -394,6 +463,22 @@ static inline int32_t defnulk_port_write(struct defnulk_handle *handle, uint64_t
                                          struct defnulk_outcome *out) {
     int32_t fit = defnulk_test(handle, bytes, len, out);
     return fit != 0 ? fit : defnulk_raw_port_write(handle, iova, defnulk_bytes(bytes), len, out);
+}
+
+/* Tells in which frame the device has the page of this address, with the right to write where `write` isn't 0, else to
+   read: for a program that holds the frames' memory itself, and does the device's accesses there. Until the device's
+   next flush, attachment or detachment by this port the frame is given to nobody else, whatever anybody unmaps. So long
+   the program may keep the translation, for accesses of the rights that it tells; it gives it up before it calls one of
+   these three, and an UNMAP of the page waits for that. The call makes no record; the server knows nothing of these
+   accesses, so they make none either, and mark no page as written (DIRTY_REPORT). -EFAULT: nothing that the device may
+   use maps the page with that right. -EBADF, DEFNULK_NOT_NOW. With each `translation` stays as it was. */
+static inline int32_t defnulk_port_translate(struct defnulk_handle *handle, uint64_t iova, uint8_t write,
+                                             struct defnulk_translation *translation) {
+    if (handle == NULL || translation == NULL)
+        return -EFAULT;
+    if (!defnulk_has_room(handle, translation, sizeof *translation))
+        return -EINVAL;
+    return defnulk_raw_port_translate(handle, iova, write, translation);
 }
 
 /* The device has forgotten what it had cached, and so does the port, also where the call isn't served now: what an

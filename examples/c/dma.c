@@ -101,13 +101,23 @@ static void unmap_page(struct defnulk_handle *caller, struct defnulk_handle *por
 /* A handle that is closed, of the other kind, or null is refused. */
 static void refuse(struct defnulk_handle *caller, struct defnulk_handle *port) {
     struct defnulk_handle closed = DEFNULK_CLOSED, other = DEFNULK_CLOSED;
+    struct defnulk_translation to = { 66, 0, 0 };
     struct defnulk_outcome out;
-    size_t device = 77;
+    size_t device = 77, len = 88;
     expect("a closed handle", defnulk_bind(&closed, FILE_ONE, DEVICE_ONE, &out), -EBADF);
     expect("a port's handle", defnulk_bind(port, FILE_ONE, DEVICE_ONE, &out), -EBADF);
     expect("a caller's handle", defnulk_port_flush(caller, &out), -EBADF);
+    expect("a caller's handle translates", defnulk_port_translate(caller, 0, 0, &to), -EBADF);
+    expect("the frame as it was", to.frame, 66);
+    expect("a port's journal", defnulk_journal(port, NULL, 0, &len), -EBADF);
+    expect("no length", (int64_t)len, 0);
+    expect("notices of no access object", defnulk_notices(caller, FILE_ONE, 9, NULL, 0, &out), -ENOENT);
+    expect("cause: no such id", out.cause, 11);
     expect("no handle", defnulk_port_flush(NULL, &out), -EFAULT);
     expect("no place for the outcome", defnulk_port_flush(port, NULL), -EFAULT);
+    expect("no place for the journal", defnulk_journal(caller, NULL, 1, &len), -EFAULT);
+    expect("its length in its place", defnulk_journal(caller, &len, sizeof len, &len), -EINVAL);
+    expect("no place for a notice", defnulk_notices(caller, FILE_ONE, 9, NULL, 1, &out), -EFAULT);
     expect("one handle twice", defnulk_share(caller, caller), -EINVAL);
     expect("no other port", defnulk_port(caller, &other, &device), -ENFILE);
     expect("the number as it was", (int64_t)device, 77);
@@ -124,7 +134,10 @@ int main(void) {
     const uint64_t users[] = { 4 };
     const uint16_t files[] = { USER_ONE };
     const struct defnulk_device devices[] = { { 0x0018, 39, 0 } };
-    const struct defnulk_config config = { users, 1, files, 1, devices, 1, 8, 3, 2, 16 };
+    const struct defnulk_config config = {
+        .users = users, .user_count = 1, .files = files, .file_count = 1, .devices = devices, .device_count = 1,
+        .pool = 8, .passes = 3, .lanes = 2, .cache = 16
+    };
     struct defnulk_handle caller = DEFNULK_CLOSED, port = DEFNULK_CLOSED;
     struct defnulk_outcome out;
     size_t device = 0;

@@ -38,7 +38,10 @@ static void *work(void *at) {
 int main(void) {
     const uint64_t users[THREADS] = { 1, 1, 1, 1 };
     const uint16_t files[] = { 1 };
-    const struct defnulk_config config = { users, THREADS, files, 1, NULL, 0, 8, THREADS, THREADS, 1 };
+    const struct defnulk_config config = {
+        .users = users, .user_count = THREADS, .files = files, .file_count = 1,
+        .pool = 8, .passes = THREADS, .lanes = THREADS, .cache = 1
+    };
     struct defnulk_outcome out;
     pthread_t threads[THREADS];
     if (defnulk_open(&config, &workers[0].handle) != 0)

@@ -1,14 +1,17 @@
 -- What is asked of the core, and applied to it, by what an access finds.
-use Rattle.std.proofs.Common.{◌≡◌, ℕ, true, false, Option, Some, None, List, length, Contains, refl, sym, ap, ◌∙◌}
+use Rattle.std.proofs.Common.{◌≡◌, ℕ, true, false, IsTrue, Option, Some, None, IfSome, List, length, Contains, refl, sym}
+use Rattle.std.proofs.Common.{ap, ◌∙◌}
 use Rattle.iofd_words.specs.Files.{is_device}
 use Rattle.iofd_words.specs.Look.{answers_to}
-use Rattle.iofd_words.specs.Pages.{crosses}
+use Rattle.iofd_words.specs.Pages.{crosses, page_of}
+use Rattle.iofd_words.specs.Rights.{has_right}
 use Rattle.iofd_words.specs.Run.{IsRun}
 use Rattle.iofd_words.specs.Settings.{Settings}
 use Rattle.iofd_words.specs.Turns.{turns_of}
 use Rattle.iofd_words.specs.View.{view}
 use Rattle.iofd_words.specs.Walk.{translation}
 use Rattle.iofd_words.specs.declared.event.Event.TheVariants as event
+use Rattle.iofd_words.specs.declared.fault.AccessKind.{AccessKind}
 use Rattle.iofd_words.specs.declared.fault.AccessKind.TheVariants.{Read, Write}
 use Rattle.iofd_words.specs.declared.numbers.DeviceNo.{DeviceNo}
 use Rattle.iofd_words.specs.declared.numbers.Iova.{Iova}
@@ -21,9 +24,9 @@ use Rattle.iofd_interleavings.proofs.Allowed.{cached_allowed}
 use Rattle.iommufd_core.specs.History.{History, may_apply, may_look, world}
 use Rattle.port_cache.specs.Cached.{Translations}
 use Rattle.server_state.specs.Choice.{IsLooked}
-use Rattle.guarded_core.specs.Caches.{ReadBy, Serves, found, frame_found}
+use Rattle.guarded_core.specs.Caches.{IsGood, ReadBy, Serves, found, frame_found}
 use Rattle.guarded_core.proofs.Answered.{cached_told, run_settings, turns_told, walk_told}
-use Rattle.guarded_core.proofs.Kept.{found_passes}
+use Rattle.guarded_core.proofs.Kept.{found_good, found_passes, found_right}
 
 -- ---- what the core tells of a known device
 
@@ -76,6 +79,20 @@ module _ {A : Type 0} (h : History A) (device : DeviceNo) (run : IsRun h.setting
   told_by (Some t) told is looked =
       cached_told h.settings h.records device iova len t.frame told
       (found_passes h device run turns kept iova.0 Read t (sym is) serves len inside) looked.is_lawful
+
+-- ---- what is found has the right, and is good
+
+module _ {A : Type 0} (h : History A) (device : DeviceNo) (run : IsRun h.settings h.records) (turns : ℕ)
+    (kept : Translations) (iova : Iova) (kind : AccessKind) where
+  pub right_found : (o : Option Translation) → o ≡ found h.settings h.records device turns kept iova.0 kind
+      → IfSome o (λ t. IsTrue (has_right t.rights kind))
+  right_found None is = tt
+  right_found (Some t) is = found_right h device run turns kept iova.0 kind t (sym is)
+
+  pub good_found : Serves h device turns kept → (o : Option Translation)
+      → o ≡ found h.settings h.records device turns kept iova.0 kind → IfSome o (IsGood h device (page_of iova.0))
+  good_found serves None is = tt
+  good_found serves (Some t) is = found_good h device run turns kept iova.0 kind t (sym is) serves
 
 -- ---- what is applied by what a write finds
 

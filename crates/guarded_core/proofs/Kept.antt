@@ -26,7 +26,7 @@ use Rattle.iofd_interleavings.specs.Interleavings.{EveryInterleaving}
 use Rattle.iommufd_core.specs.History.{History, world}
 use Rattle.lane_lock.specs.History.{StartsWith}
 use Rattle.port_cache.specs.Cached.{IsUsed, Leaves, Translations, compared, used, with_right}
-use Rattle.guarded_core.specs.Caches.{AreSound, MayKeep, Serves, WereSound, either_with_right, entry_of, found}
+use Rattle.guarded_core.specs.Caches.{AreSound, IsGood, MayKeep, Serves, WereSound, either_with_right, entry_of, found}
 use Rattle.guarded_core.specs.Entries.{history_of, told}
 use Rattle.guarded_core.specs.declared.kept_core.Entry.{Entry}
 use Rattle.guarded_core.specs.declared.kept_core.Entry.TheVariants as entry
@@ -205,6 +205,13 @@ module _ {A : Type 0} (h : History A) (device : DeviceNo) (run : IsRun h.setting
     found_passes serves len inside =
         ∥∥₁_elim serves (hlevel props) (λ (s : IsRun h.settings h.records → turns ≡ turns_of device h.records
         → AreSound h device kept). passes address (found_backed s) len inside)
+
+    -- it is good, and has the right
+    pub found_good : Serves h device turns kept → IsGood h device (page_of address) t
+    found_good serves = ∥∥₁_map serves found_backed
+
+    pub found_right : has_right t.rights kind ≡ true
+    found_right = parts.1
 
   -- ---- what is kept then
 

@@ -1,10 +1,11 @@
 -- Which translations a port may keep, when they serve, and what an access finds.
-use Rattle.std.specs.Prelude.{◌≡◌, ◌⊎◌, ℕ, nat_eq, Option, Some, None, List, [], Contains, IsTrue}
+use Rattle.std.specs.Prelude.{◌≡◌, ◌⊎◌, ℕ, nat_eq, Option, Some, None, IfSome, List, [], Contains, IsTrue}
 use Rattle.std.specs.Map.{lookup}
 use Rattle.std.specs.Option.{option_map}
 use Rattle.iofd_words.specs.Frames.{bytes_at}
 use Rattle.iofd_words.specs.Look.{answers_to}
 use Rattle.iofd_words.specs.Pages.{offset_of, page_of}
+use Rattle.iofd_words.specs.Rights.{has_right}
 use Rattle.iofd_words.specs.Run.{IsRun, world_of}
 use Rattle.iofd_words.specs.Settings.{Settings}
 use Rattle.iofd_words.specs.Turns.{turns_of}
@@ -57,6 +58,10 @@ pub record WereSound {A E : Type 0} (tells : History A → List E) (device : Dev
 abbrev pub MayKeep : {A E : Type 0} → (History A → List E) → DeviceNo → List E → ℕ → Translations → Type 0
 MayKeep tells device seen turns kept = ∥ (kept ≡ []) ⊎ WereSound tells device seen turns kept ∥₁
 
+-- a page's translation is good for the device in the world of this history
+abbrev pub IsGood : {A : Type 0} → History A → DeviceNo → ℕ → Translation → Type 0
+IsGood h device page t = ∥ IsBacked (world h) device (entry_of page t) ∥₁
+
 -- what a port may keep, of what its pass has seen of a core under a lock
 abbrev pub PortKeeps : {A S T E : Type 0} {g : kept.Ghosts (KeptCore A) S T E} → DeviceNo → Pass (KeptCore A) S T E g
     → ℕ → Translations → Type 0
@@ -103,6 +108,15 @@ write_by device address bytes t =
     record { event = event.DeviceWrite device (record { 0 = address }) bytes; via = frame_found t }
 
 -- ---- under a guard that shows this history
+
+-- what a page is translated to, by what is kept: what is found has the right, and is good for the device then
+pub record TranslatedUnder {A : Type 0} (h : History A) (device : DeviceNo) (turns : ℕ) (kept : Translations)
+    (iova : Iova) (kind : AccessKind) (finds : Found) : Type 0 where
+  pub run : IsRun h.settings h.records
+  pub turned : finds.turns ≡ turns_of device h.records
+  pub found_so : finds.translation ≡ found h.settings h.records device turns kept iova.0 kind
+  pub right : IfSome finds.translation (λ t. IsTrue (has_right t.rights kind))
+  pub backed : IfSome finds.translation (IsGood h device (page_of iova.0))
 
 -- a read of so many bytes, by what is kept: the answer is one that the policy allows, and is by what the read finds
 pub record ReadUnder {A : Type 0} (h : History A) (device : DeviceNo) (turns : ℕ) (kept : Translations) (iova : Iova)

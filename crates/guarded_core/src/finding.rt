@@ -7,7 +7,7 @@ ghost use Rattle.iofd_words.specs.Turns.{turns_of};
 ghost use Rattle.iofd_words.specs.View.{view};
 ghost use Rattle.iofd_words.specs.Walk.{translation};
 ghost use Rattle.iommufd_core.specs.History.{world};
-ghost use Rattle.guarded_core.specs.Caches.{ReadUnder, Serves, WriteUnder, found, frame_found};
+ghost use Rattle.guarded_core.specs.Caches.{ReadUnder, Serves, TranslatedUnder, WriteUnder, found, frame_found};
 ghost use Rattle.port_cache.specs.Cached.{with_right};
 
 use crate::kept_core::KeptCore;
@@ -24,6 +24,15 @@ pub struct PortRead<'a, A: Allocator + Copy> {
     pub device: DeviceNo,
     pub iova: Iova,
     pub len: u8,
+}
+
+/// What a device's page at an address is translated to, with a right, by what its port keeps.
+#[derive(Clone, Copy)]
+pub struct PortWalk<'a, A: Allocator + Copy> {
+    pub cache: &'a PortCache<A>,
+    pub device: DeviceNo,
+    pub iova: Iova,
+    pub kind: AccessKind,
 }
 
 // The frame of a translation.
@@ -79,6 +88,23 @@ impl<A: Allocator + Copy> KeptCore<A> {
             None => self.walk_with(device, iova, kind),
         };
         Found { turns, translation }
+    }
+
+    /// What the page at the address is translated to for the device, with the right.
+    pub fn translate(&self, walk: PortWalk<'_, A>) -> Found
+        requires known { is_device self.now.core.history.settings walk.device ≡ true }
+        requires serves { Serves self.now.core.history walk.device walk.cache.now.turns walk.cache.now.pages.entries }
+        ensures { TranslatedUnder self.now.core.history walk.entry.device walk.entry.cache.now.turns
+            walk.entry.cache.now.pages.entries walk.entry.iova walk.entry.kind result }
+    {
+        let PortWalk {
+            cache,
+            device,
+            iova,
+            kind,
+        } = walk;
+        let _core = self.core();
+        self.find(cache, device, iova, kind)
     }
 
     /// What the device reads, and what it found.

@@ -5,13 +5,14 @@ ghost use Rattle.iofd_words.specs.Look.{answers_to};
 ghost use Rattle.iofd_words.specs.Run.{IsRun};
 ghost use Rattle.server_state.specs.Choice.{IsLooked};
 ghost use Rattle.guarded_core.specs.OfPort.{query_of_port};
-ghost use Rattle.guarded_core.specs.Told.{TellsNotices, TellsRanges};
+ghost use Rattle.guarded_core.specs.Told.{TellsJournal, TellsNotices, TellsRanges};
 
 use iofd_words::{
     Act, Answer, CallError, Config, FileNo, NoMemory, ObjId, PassNo, Query, Record, Span,
 };
 use iommufd_core::{Core, Stamp};
 use iova_ranges::RangeSet;
+use journal_audit_writing::{JournalError, journal};
 use lane_lock::Kept;
 use std::alloc::{Allocator, Global};
 
@@ -76,6 +77,15 @@ impl<A: Allocator + Copy> KeptCore<A> {
         ensures run { IsRun self.now.core.history.settings self.now.core.history.records }
     {
         self.core().ranges(ioas.file, ioas.id)
+    }
+
+    /// The journal, of version 2, of what the core was opened with and of its records, in memory of this allocator.
+    pub fn journal(&self, alloc: A) -> Result<Vec<u8, A>, JournalError>
+        ensures journal { TellsJournal self.now.core.history result }
+        ensures run { IsRun self.now.core.history.settings self.now.core.history.records }
+    {
+        let core = self.core();
+        journal(alloc, core.config(), core.records())
     }
 
     /// What the core answers to the question, which isn't one of a port.

@@ -7,7 +7,7 @@ mod guarded;
 mod kept_core;
 mod try_error;
 
-pub use finding::PortRead;
+pub use finding::{PortRead, PortWalk};
 pub use guarded::{commit, show, try_commit, try_commit_later, try_show, try_show_later};
 pub use kept_core::{Entry, KeptCore, ObjectOf};
 pub use try_error::TryError;

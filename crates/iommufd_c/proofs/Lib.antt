@@ -1,1 +1,2 @@
 mod Configs
+mod Rows

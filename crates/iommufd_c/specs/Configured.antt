@@ -1,40 +1,63 @@
 -- The settings that a C program asks for.
-use Rattle.std.specs.Prelude.{◌≡◌, ◌⊎◌, ◌==◌, ◌||◌, ℕ, Bool, true, false, not, List, [], map, Option, Some, None}
-use Rattle.std.specs.Prelude.{Result, Ok, Err, if◌then◌else◌}
+use Rattle.std.specs.Prelude.{◌≡◌, ◌⊎◌, ◌==◌, ◌&&◌, ◌||◌, ℕ, nat_le, Bool, true, false, not, List, length, filter, map}
+use Rattle.std.specs.Prelude.{Some, None, Result, Ok, Err, if◌then◌else◌}
+use Rattle.std.specs.List.{enumerate_from, list_all}
+use Rattle.iofd_words.specs.Bounds.{Bounds}
 use Rattle.iofd_words.specs.Limits.{first_outside}
-use Rattle.iofd_words.specs.Settings.{DeviceSettings, Settings}
+use Rattle.iofd_words.specs.Settings.{DeviceSettings, Settings, is_between}
 use Rattle.iofd_words.specs.declared.config.ConfigError.{ConfigError}
 use Rattle.iofd_words.specs.declared.config.ConfigError.TheVariants as error
 use Rattle.iofd_words.specs.declared.numbers.UserNo.{UserNo}
 use Rattle.iofd_words.specs.declared.width.Width.TheVariants.{Bits39, Bits48, Bits57}
 use Rattle.iommufd_c.specs.declared.configuring.DeviceRow.{DeviceRow}
+use Rattle.iommufd_c.specs.declared.reserving.ReservedRow.{ReservedRow}
 
 -- its width is one that there is
 abbrev pub is_row : DeviceRow → Bool
 is_row row = (row.width == 39) || (row.width == 48) || (row.width == 57)
 
--- the device of the row, which reserves no spans
-abbrev pub row_settings : DeviceRow → DeviceSettings
-row_settings row = record {
+-- it is a span, of one of so many devices
+abbrev pub is_reserved_row : ℕ → ReservedRow → Bool
+is_reserved_row devices row = is_between 1 devices row.device && nat_le row.first row.last
+
+-- each device's width is one that there is, and each reserved row a span of one of the devices
+abbrev pub are_rows : List DeviceRow → List ReservedRow → Bool
+are_rows devices reserved = list_all is_row devices && list_all (is_reserved_row (length devices)) reserved
+
+abbrev pub span_of : ReservedRow → Bounds
+span_of row = record { first = row.first; last = row.last }
+
+-- the spans of the rows that name this device, in the order of the rows
+abbrev pub reserved_for : List ReservedRow → ℕ → List Bounds
+reserved_for rows device = map span_of (filter (λ row. row.device == device) rows)
+
+-- the device of the row, with these reserved spans
+abbrev pub device_settings : DeviceRow → List Bounds → DeviceSettings
+device_settings row reserved = record {
   source = record { 0 = row.source };
   width = if row.width == 39 then Bits39 else if row.width == 48 then Bits48 else Bits57;
   x86 = not (row.x86 == 0);
-  reserved = [];
+  reserved = reserved;
 }
+
+-- the devices of the rows, counted from 1, each with the spans that are reserved for its number
+abbrev pub devices_of_rows : List ReservedRow → List DeviceRow → List DeviceSettings
+devices_of_rows reserved rows =
+    map (λ numbered. device_settings numbered.1 (reserved_for reserved numbered.0)) (enumerate_from 1 rows)
 
 abbrev pub user_of : ℕ → UserNo
 user_of user = record { 0 = user }
 
-abbrev pub settings_of_rows : ℕ → List ℕ → List ℕ → List DeviceRow → ℕ → Settings
-settings_of_rows pool users files devices passes = record {
+abbrev pub settings_of_rows : ℕ → List ℕ → List ℕ → List DeviceRow → List ReservedRow → ℕ → Settings
+settings_of_rows pool users files devices reserved passes = record {
   pool = pool;
   users = users;
   files = map user_of files;
-  devices = map row_settings devices;
+  devices = devices_of_rows reserved devices;
   passes = passes;
 }
 
--- the settings, where each row has a width and they are within the limits; or why not, or that memory was wanting
+-- the settings, where the rows are such and they are within the limits; or why not, or that memory was wanting
 abbrev pub IsConfigured : Bool → Settings → Result Settings ConfigError → Type 0
 IsConfigured false settings result = result ≡ Err error.Devices
 IsConfigured true settings (Ok config) = (config ≡ settings) × (first_outside settings ≡ None)

@@ -1,21 +1,30 @@
 -- What the exports do: what the call of the handle does, whose result the status and the outcome tell.
-use Rattle.std.specs.Prelude.{◌≡◌, ◌⊎◌, ◌<◌, ◌≤◌, ℕ, ℤ, Bool, true, false, List, [], ◌++◌, length, take, drop}
-use Rattle.std.specs.Prelude.{Option, Some, None, Result, Ok, Err}
+use Rattle.std.specs.Prelude.{◌≡◌, ◌⊎◌, ◌<◌, ◌≤◌, ℕ, ℤ, Bool, true, false, List, [], ◌++◌, length, map, take, drop}
+use Rattle.std.specs.Prelude.{Option, Some, None, Result, Ok, Err, Vec, ◌==◌, if◌then◌else◌}
 use Rattle.std.specs.declared.alloc.Global.{Global}
+use Rattle.iofd_words.specs.Bounds.{Bounds}
 use Rattle.iofd_words.specs.Limits.{first_outside}
+use Rattle.iofd_words.specs.Rights.{has_right}
 use Rattle.iofd_words.specs.Settings.{Settings}
+use Rattle.iofd_words.specs.declared.call_error.CallError.{CallError}
 use Rattle.iofd_words.specs.declared.config.ConfigError.{ConfigError}
 use Rattle.iofd_words.specs.declared.event.Event.{Event}
+use Rattle.iofd_words.specs.declared.fault.AccessKind.{AccessKind}
+use Rattle.iofd_words.specs.declared.fault.AccessKind.TheVariants as kind
 use Rattle.iofd_words.specs.declared.numbers.FileNo.{FileNo}
+use Rattle.iofd_words.specs.declared.numbers.ObjId.{ObjId}
 use Rattle.iofd_words.specs.declared.query.Answer.{Answer}
 use Rattle.iofd_words.specs.declared.query.Answer.TheVariants as answer
 use Rattle.iofd_words.specs.declared.query.Query.{Query}
+use Rattle.iofd_words.specs.declared.query.Translation.{Translation}
 use Rattle.iofd_words.specs.declared.refusal.NoMemory.{NoMemory}
 use Rattle.iommufd_core.specs.declared.apply.Stamp.{Stamp}
+use Rattle.journal_audit_writing.specs.declared.whole.JournalError.{JournalError}
 use Rattle.lane_lock.specs.declared.refusal.NotNow.{NotNow}
 use Rattle.guarded_core.specs.declared.try_error.TryError.{TryError}
 use Rattle.shared_iommufd.specs.declared.ioctl_answer.IoctlAnswer.{IoctlAnswer}
-use Rattle.server_handle.specs.Calls.{Calls, Looks, ReadsBytes, Serves, TakesTurn, WritesBytes}
+use Rattle.server_handle.specs.Calls.{Calls, Looks, ReadsBytes, Serves, TakesTurn, TellsJournal, TellsNotices}
+use Rattle.server_handle.specs.Calls.{TranslatesPage, WritesBytes}
 use Rattle.server_handle.specs.Handles.{GivesDevice, OnCaller, OnDevice, Opens, Shares}
 use Rattle.server_handle.specs.declared.client.Client.{Client}
 use Rattle.server_handle.specs.declared.device.Access.{Access}
@@ -25,6 +34,8 @@ use Rattle.server_handle.specs.declared.turn.Turn.{Turn}
 use Rattle.iommufd_c.specs.Outcomes as tells
 use Rattle.iommufd_c.specs.Statuses as says
 use Rattle.iommufd_c.specs.declared.outcome.Outcome.{Outcome}
+use Rattle.iommufd_c.specs.declared.spans.SpanRow.{SpanRow}
+use Rattle.iommufd_c.specs.declared.translated.TranslationRow.{TranslationRow}
 
 -- an event was applied by a caller's handle
 pub record IsCalled (event : Event Global) (before : Option Client) (status : ℤ) (outcome : Outcome)
@@ -52,9 +63,9 @@ pub record IsAsked (query : Query) (before : Option Client) (status : ℤ) (outc
   pub says_so : status ≡ says.look_status told
   pub tells_so : outcome ≡ tells.look_outcome told
 
--- the bytes stand at the front, as far as there is place, and behind them what stood there
-abbrev pub over : List ℕ → List ℕ → List ℕ
-over old bytes = take (length old) bytes ++ drop (length bytes) old
+-- the items stand at the front, as many as there is place for, and behind them what stood there
+abbrev pub over : {X : Type 0} → List X → List X → List X
+over old items = take (length old) items ++ drop (length items) old
 
 -- the bytes that were read, if any were
 abbrev pub read_bytes : Option (Result Answer NotNow) → List ℕ
@@ -77,6 +88,25 @@ pub record IsPeeked (query : Query) (before : Option Client) (status : ℤ) (old
   pub tells_so : outcome ≡ tells.look_outcome told
   pub put : new ≡ over old (read_bytes told)
 
+-- the span as C has it
+abbrev pub row_of : Bounds → SpanRow
+row_of span = record { first = span.first; last = span.last }
+
+-- the spans that are told, if any are
+abbrev pub spans_told : Option (Result (Vec Bounds Global) (TryError CallError)) → List SpanRow
+spans_told None = []
+spans_told (Some (Ok spans)) = map row_of spans.items
+spans_told (Some (Err error)) = []
+
+-- the notices of an access object were asked for by a caller's handle, and stand over the room for spans then
+pub record AreNoticed (file : FileNo) (access : ObjId) (before : Option Client) (status : ℤ) (old new : List SpanRow)
+    (outcome : Outcome) (after : Option Client) : Type 0 where
+  pub told : Option (Result (Vec Bounds Global) (TryError CallError))
+  pub asked : OnCaller before told after (TellsNotices file access)
+  pub says_so : status ≡ says.notices_status told
+  pub tells_so : outcome ≡ tells.notices_outcome told
+  pub put : new ≡ over old (spans_told told)
+
 -- what an ioctl writes back
 abbrev pub back : Option (Result (IoctlAnswer Global) (TryError NoMemory)) → List ℕ
 back None = []
@@ -97,6 +127,21 @@ abbrev pub IsCarriedOut : FileNo → ℕ → List ℕ → Option Client → ℤ 
 IsCarriedOut file number bytes before status old new written after =
     ((64 ≤ length old) × IsServedBy file number bytes before status old new written after)
     ⊎ ((length old < 64) × (status ≡ says.outside) × (new ≡ old) × (written ≡ 0) × (after ≡ before))
+
+-- the bytes of the journal that is told, if one is
+abbrev pub journal_bytes : Option (Result (Vec ℕ Global) (TryError JournalError)) → List ℕ
+journal_bytes None = []
+journal_bytes (Some (Ok bytes)) = bytes.items
+journal_bytes (Some (Err error)) = []
+
+-- the journal was asked for by a caller's handle, and stands over the room then; it has this many bytes
+pub record IsJournalled (before : Option Client) (status : ℤ) (old new : List ℕ) (written : ℕ) (after : Option Client)
+    : Type 0 where
+  pub told : Option (Result (Vec ℕ Global) (TryError JournalError))
+  pub asked : OnCaller before told after TellsJournal
+  pub says_so : status ≡ says.journal_status told
+  pub put : new ≡ over old (journal_bytes told)
+  pub count : written ≡ length (journal_bytes told)
 
 -- a device took its turn, by its port's handle
 pub record IsTurned (turn : Turn) (before : Option Client) (status : ℤ) (outcome : Outcome) (after : Option Client)
@@ -123,8 +168,34 @@ pub record IsWritten (address : ℕ) (bytes : List ℕ) (before : Option Client)
   pub says_so : status ≡ says.access_status access
   pub tells_so : outcome ≡ tells.access_outcome (length bytes) access
 
+-- the right to write, unless this is 0
+abbrev pub kind_of : ℕ → AccessKind
+kind_of write = if write == 0 then kind.Read else kind.Write
+
+abbrev pub row_of_translation : Translation → TranslationRow
+row_of_translation t = record {
+  frame = t.frame.0;
+  readable = if has_right t.rights kind.Read then 1 else 0;
+  writeable = if has_right t.rights kind.Write then 1 else 0;
+}
+
+-- what stands in the row once this was told: the translation, or what stood there
+abbrev pub translation_told : TranslationRow → Option (Result (Option Translation) NotNow) → TranslationRow
+translation_told old None = old
+translation_told old (Some (Ok (Some translation))) = row_of_translation translation
+translation_told old (Some (Ok None)) = old
+translation_told old (Some (Err refused)) = old
+
+-- what a page is translated to was asked for by a port's handle
+pub record IsTranslated (address : ℕ) (right : AccessKind) (before : Option Client) (status : ℤ) (old new : TranslationRow)
+    (after : Option Client) : Type 0 where
+  pub told : Option (Result (Option Translation) NotNow)
+  pub asked : OnDevice before told after (TranslatesPage address right)
+  pub says_so : status ≡ says.translate_status told
+  pub put : new ≡ translation_told old told
+
 -- A server was opened; or what was asked for is outside the limits, or there was no memory to ask, though each device's
--- width is one that there is; and the handle is as it was.
+-- width is one that there is, and each reserved row a span of a device; and the handle is as it was.
 abbrev pub IsOpened : Bool → Settings → ℕ → ℕ → Option Client → ℤ → Option Client → Type 0
 IsOpened are_rows settings lanes cache before status after =
     ((told : Result (Unit {0}) OpenError) × Opens before settings lanes cache told after

@@ -1,7 +1,11 @@
 -- What calls tell beside their statuses.
-use Rattle.std.specs.Prelude.{ℕ, length, Option, Some, None, Result, Ok, Err}
+use Rattle.std.specs.Prelude.{ℕ, length, Option, Some, None, Result, Ok, Err, Vec}
+use Rattle.std.specs.declared.alloc.Global.{Global}
+use Rattle.iofd_words.specs.Bounds.{Bounds}
 use Rattle.iofd_words.specs.Fault.{reason_number}
 use Rattle.iofd_words.specs.Refusal.{number_of}
+use Rattle.iofd_words.specs.declared.call_error.CallError.{CallError}
+use Rattle.iofd_words.specs.declared.call_error.CallError.TheVariants as failed
 use Rattle.iofd_words.specs.declared.query.Answer.{Answer}
 use Rattle.iofd_words.specs.declared.query.Answer.TheVariants as answer
 use Rattle.iofd_words.specs.declared.refusal.NoMemory.{NoMemory}
@@ -54,6 +58,14 @@ look_outcome (Some (Ok (answer.Dirty words))) = nothing
 look_outcome (Some (Ok (answer.Fault fault))) = record nothing { fault = reason_number fault.reason }
 look_outcome (Some (Ok (answer.Refused refusal))) = record nothing { cause = number_of refusal.cause }
 look_outcome (Some (Err refused)) = nothing
+
+-- how many notices there are
+abbrev pub notices_outcome : Option (Result (Vec Bounds Global) (TryError CallError)) → Outcome
+notices_outcome None = nothing
+notices_outcome (Some (Ok spans)) = record nothing { value = length spans.items }
+notices_outcome (Some (Err (tried.Call (failed.Refused refusal)))) = record nothing { cause = number_of refusal.cause }
+notices_outcome (Some (Err (tried.Call (failed.Memory wanting)))) = nothing
+notices_outcome (Some (Err (tried.NotNow refused))) = nothing
 
 abbrev pub denied : Outcome → TryError PortCause → Outcome
 denied told (tried.Call (cause.Refused refusal)) = record told { cause = number_of refusal.cause }

@@ -1,14 +1,20 @@
 -- The statuses of calls: 0, an errno below 0, or that the call has to be made again.
-use Rattle.std.specs.Prelude.{ℕ, ℤ, pos, neg_ℤ, Option, Some, None, Result, Ok, Err}
+use Rattle.std.specs.Prelude.{ℕ, ℤ, pos, neg_ℤ, Option, Some, None, Result, Ok, Err, Vec}
 use Rattle.std.specs.declared.alloc.Global.{Global}
+use Rattle.iofd_words.specs.Bounds.{Bounds}
 use Rattle.iofd_words.specs.Refusal.{errno_number, errno_of}
+use Rattle.iofd_words.specs.declared.call_error.CallError.{CallError}
+use Rattle.iofd_words.specs.declared.call_error.CallError.TheVariants as failed
 use Rattle.iofd_words.specs.declared.query.Answer.{Answer}
 use Rattle.iofd_words.specs.declared.query.Answer.TheVariants as answer
+use Rattle.iofd_words.specs.declared.query.Translation.{Translation}
 use Rattle.iofd_words.specs.declared.refusal.Errno.{Errno}
 use Rattle.iofd_words.specs.declared.refusal.NoMemory.{NoMemory}
 use Rattle.iofd_words.specs.declared.reply.Reply.{Reply}
 use Rattle.iofd_words.specs.declared.reply.Reply.TheVariants as reply
 use Rattle.iommufd_core.specs.declared.apply.Stamp.{Stamp}
+use Rattle.journal_audit_writing.specs.declared.whole.JournalError.{JournalError}
+use Rattle.journal_audit_writing.specs.declared.whole.JournalError.TheVariants as unwritten
 use Rattle.lane_lock.specs.declared.refusal.NotNow.{NotNow}
 use Rattle.guarded_core.specs.declared.try_error.TryError.{TryError}
 use Rattle.guarded_core.specs.declared.try_error.TryError.TheVariants as tried
@@ -42,7 +48,7 @@ bad_handle = minus 9
 abbrev pub no_memory : ℤ
 no_memory = minus 12
 
--- EFAULT: the access was denied
+-- EFAULT: the access was denied, or would be
 abbrev pub denied : ℤ
 denied = minus 14
 
@@ -50,7 +56,7 @@ denied = minus 14
 abbrev pub open_already : ℤ
 open_already = minus 16
 
--- EINVAL: a number is outside its limits
+-- EINVAL: a number is outside its limits, or a record has no spelling
 abbrev pub outside : ℤ
 outside = minus 22
 
@@ -94,6 +100,20 @@ look_status (Some (Ok (answer.Fault fault))) = denied
 look_status (Some (Ok (answer.Refused refusal))) = error_status (errno_of refusal.cause)
 look_status (Some (Err refused)) = not_now
 
+abbrev pub notices_status : Option (Result (Vec Bounds Global) (TryError CallError)) → ℤ
+notices_status None = bad_handle
+notices_status (Some (Ok spans)) = done
+notices_status (Some (Err (tried.Call (failed.Refused refusal)))) = error_status (errno_of refusal.cause)
+notices_status (Some (Err (tried.Call (failed.Memory wanting)))) = no_memory
+notices_status (Some (Err (tried.NotNow refused))) = not_now
+
+abbrev pub journal_status : Option (Result (Vec ℕ Global) (TryError JournalError)) → ℤ
+journal_status None = bad_handle
+journal_status (Some (Ok bytes)) = done
+journal_status (Some (Err (tried.Call (unwritten.Unspelt index)))) = outside
+journal_status (Some (Err (tried.Call unwritten.NoMemory))) = no_memory
+journal_status (Some (Err (tried.NotNow refused))) = not_now
+
 abbrev pub ioctl_status : Option (Result (IoctlAnswer Global) (TryError NoMemory)) → ℤ
 ioctl_status None = bad_handle
 ioctl_status (Some (Ok answer)) = errno_status answer.errno
@@ -113,6 +133,12 @@ ended_status (Err error) = cause_status error.cause
 abbrev pub access_status : Option Access → ℤ
 access_status None = bad_handle
 access_status (Some access) = ended_status access.ended
+
+abbrev pub translate_status : Option (Result (Option Translation) NotNow) → ℤ
+translate_status None = bad_handle
+translate_status (Some (Ok (Some translation))) = done
+translate_status (Some (Ok None)) = denied
+translate_status (Some (Err refused)) = not_now
 
 abbrev pub open_status : Result (Unit {0}) OpenError → ℤ
 open_status (Ok it) = done

@@ -2,13 +2,15 @@
 
 ghost use Rattle.std.specs.Prelude.{◌≡◌, false, min, length};
 ghost use Rattle.guarded_core.specs.OfPort.{query_of_port};
-ghost use Rattle.iommufd_c.specs.Exports.{IsAsked, IsCarriedOut, IsPeeked, IsServedBy, back, over, read_bytes};
+ghost use Rattle.iommufd_c.specs.Exports.{AreNoticed, IsAsked, IsCarriedOut, IsJournalled, IsPeeked, IsServedBy};
+ghost use Rattle.iommufd_c.specs.Exports.{back, journal_bytes, over, read_bytes, spans_told};
 
-use crate::outcome::{Outcome, look_outcome};
-use crate::status::{EINVAL, ioctl_status, look_status};
-use iofd_words::{Answer, FileNo, Iova, NoMemory, ObjId, Query, UserNo};
+use crate::outcome::{Outcome, look_outcome, notices_outcome};
+use crate::spans::{SpanRow, put_spans};
+use crate::status::{EINVAL, ioctl_status, journal_status, look_status, notices_status};
+use iofd_words::{Answer, CallError, FileNo, Iova, NoMemory, ObjId, Query, Span, UserNo};
 use server_handle::Handle;
-use shared_iommufd::{IoctlAnswer, NotNow, TryError};
+use shared_iommufd::{IoctlAnswer, JournalError, NotNow, TryError};
 use std::alloc::Global;
 
 // The least room for what an ioctl writes back.
@@ -134,6 +136,36 @@ pub extern "C" fn defnulk_raw_access_read(
     peek(alloc, handle, &query, buffer, out)
 }
 
+// Puts the notices over the room for spans.
+fn put_notices(spans: &mut [SpanRow], told: &Option<Result<Vec<Span>, TryError<CallError>>>)
+    ensures { spans.new ≡ over spans.old (spans_told told.now) }
+{
+    if let Some(Ok(notices)) = told {
+        put_spans(spans, notices.as_slice());
+    }
+}
+
+/// The notices of an access object, by which its driver is asked to let go: the spans of the leaving areas in which it
+/// holds a pin. They stand at the front of `spans` by rising start, as many as there is place for. The value is how
+/// many there are.
+#[unsafe(no_mangle)]
+pub extern "C" fn defnulk_raw_notices(
+    alloc: Global,
+    handle: &mut Handle,
+    file: u16,
+    access: u32,
+    spans: &mut [SpanRow],
+    out: &mut Outcome,
+) -> i32
+    ensures { AreNoticed (record { 0 = file }) (record { 0 = access }) handle.old.client result spans.old spans.new
+        out.new handle.new.client }
+{
+    let told = handle.notices(alloc, FileNo(file), ObjId(access));
+    put_notices(spans, &told);
+    *out = notices_outcome(&told);
+    notices_status(&told)
+}
+
 // Puts what is written back over the room, and answers how many bytes that is.
 fn put_back(room: &mut [u8], told: &Option<Result<IoctlAnswer, TryError<NoMemory>>>) -> usize
     ensures put { room.new ≡ over room.old (back told.now) }
@@ -184,4 +216,33 @@ pub extern "C" fn defnulk_raw_ioctl(
         return EINVAL;
     }
     serve(alloc, handle, FileNo(file), number, bytes, room, written)
+}
+
+// Puts the journal over the room, and answers how many bytes it has.
+fn put_journal(room: &mut [u8], told: &Option<Result<Vec<u8>, TryError<JournalError>>>) -> usize
+    ensures put { room.new ≡ over room.old (journal_bytes told.now) }
+    ensures count { result ≡ length (journal_bytes told.now) }
+{
+    if let Some(Ok(bytes)) = told {
+        put_over(room, bytes.as_slice());
+        return bytes.len();
+    }
+    0
+}
+
+/// The journal, of version 2, of what the server was opened with and of all its records (docs/JOURNAL.md). It stands at
+/// the front of the room, as far as that has place, and `written` says how many bytes it is. EINVAL where a record has no
+/// spelling.
+#[unsafe(no_mangle)]
+pub extern "C" fn defnulk_raw_journal(
+    alloc: Global,
+    handle: &mut Handle,
+    room: &mut [u8],
+    written: &mut usize,
+) -> i32
+    ensures { IsJournalled handle.old.client result room.old room.new written.new handle.new.client }
+{
+    let told = handle.journal(alloc);
+    *written = put_journal(room, &told);
+    journal_status(&told)
 }

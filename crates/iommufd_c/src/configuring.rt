@@ -1,9 +1,11 @@
 //! The configuration of a server, from the arrays of a C program.
 
-ghost use Rattle.std.specs.Prelude.{◌≡◌, IfErr, IfOk, map};
+ghost use Rattle.std.specs.Prelude.{◌≡◌, ◌≤◌, All, IfOk, map};
 ghost use Rattle.std.specs.List.{list_all};
-ghost use Rattle.iommufd_c.specs.Configured.{IsConfigured, is_row, row_settings, settings_of_rows, user_of};
+ghost use Rattle.iommufd_c.specs.Configured.{IsConfigured, are_rows, device_settings, devices_of_rows, is_row};
+ghost use Rattle.iommufd_c.specs.Configured.{settings_of_rows, user_of};
 
+use crate::reserving::{ReservedRow, are_reserved_rows, reserved_for};
 use iofd_words::{Config, ConfigError, DeviceConfig, NoMemory, SourceId, SpanList, UserNo, Width};
 use std::alloc::Global;
 
@@ -20,15 +22,15 @@ pub struct DeviceRow {
 }
 
 // Whether each row's width is one that there is.
-fn are_rows(rows: &[DeviceRow]) -> bool
+fn are_device_rows(rows: &[DeviceRow]) -> bool
     ensures { result ≡ list_all is_row rows.now }
 {
     rows.iter().all(|row| row.width == 39 || row.width == 48 || row.width == 57)
 }
 
-// The device of a row. It reserves no spans.
-fn device_of(alloc: Global, row: &DeviceRow) -> DeviceConfig
-    ensures { result ≡ row_settings row.now }
+// The device of a row, with these reserved spans.
+fn device_of(row: &DeviceRow, reserved: SpanList) -> DeviceConfig
+    ensures { result ≡ device_settings row.now reserved }
 {
     let width = if row.width == 39 {
         Width::Bits39
@@ -37,16 +39,22 @@ fn device_of(alloc: Global, row: &DeviceRow) -> DeviceConfig
     } else {
         Width::Bits57
     };
-    let reserved = SpanList::new(Vec::new(alloc));
     DeviceConfig::new(SourceId(row.source), width, row.x86 != 0, reserved)
 }
 
-fn devices_of(alloc: Global, rows: &[DeviceRow]) -> Result<Vec<DeviceConfig>, NoMemory>
-    ensures { IfOk result (λ devices. devices.items ≡ map row_settings rows.now) }
+// The devices of the rows, each with the spans that are reserved for its number.
+fn devices_of(
+    alloc: Global,
+    rows: &[DeviceRow],
+    reserved: &[ReservedRow],
+) -> Result<Vec<DeviceConfig>, NoMemory>
+    requires { All (λ row. row.first ≤ row.last) reserved.now }
+    ensures { IfOk result (λ devices. devices.items ≡ devices_of_rows reserved.now rows.now) }
 {
     let mut devices = Vec::with_capacity(alloc, rows.len())?;
-    for row in rows {
-        devices.push(device_of(alloc, row))?;
+    for (place, row) in rows.iter().enumerate() {
+        let spans = reserved_for(alloc, reserved, place + 1)?;
+        devices.push(device_of(row, spans))?;
     }
     Ok(devices)
 }
@@ -67,26 +75,27 @@ fn limits_of(alloc: Global, limits: &[u64]) -> Result<Vec<u64>, NoMemory>
     Ok(Vec::from_slice(alloc, limits)?)
 }
 
-/// The configuration of these arrays. The error is Devices where a row's width is none, and else that of `Config::new`,
-/// or that memory was wanting.
+/// The configuration of these arrays. The error is Devices where a row's width is none, or a reserved span is none of one
+/// of the devices, and else that of `Config::new`, or that memory was wanting.
 pub(crate) fn config_of(
     alloc: Global,
     pool: u32,
     users: &[u64],
     files: &[u16],
     devices: &[DeviceRow],
+    reserved: &[ReservedRow],
     passes: u16,
 ) -> Result<Config, ConfigError>
-    ensures { IsConfigured (list_all is_row devices.now)
-        (settings_of_rows pool users.now files.now devices.now passes) result }
+    ensures { IsConfigured (are_rows devices.now reserved.now)
+        (settings_of_rows pool users.now files.now devices.now reserved.now passes) result }
 {
-    if !are_rows(devices) {
+    if !are_device_rows(devices) || !are_reserved_rows(reserved, devices.len()) {
         return Err(ConfigError::Devices);
     }
     match (
         limits_of(alloc, users),
         files_of(alloc, files),
-        devices_of(alloc, devices),
+        devices_of(alloc, devices, reserved),
     ) {
         (Ok(users), Ok(files), Ok(devices)) => Config::new(pool, users, files, devices, passes),
         _ => Err(ConfigError::Memory),

@@ -8,7 +8,13 @@ mod events;
 mod opening;
 mod outcome;
 mod ports;
+mod reserving;
+mod spans;
 mod status;
+mod translated;
 
 pub use configuring::DeviceRow;
 pub use outcome::Outcome;
+pub use reserving::ReservedRow;
+pub use spans::SpanRow;
+pub use translated::TranslationRow;

@@ -1,19 +1,20 @@
 //! How handles are opened and closed.
 
 ghost use Rattle.std.specs.Prelude.{◌≡◌, is_some, if◌then◌else◌, None};
-ghost use Rattle.std.specs.List.{list_all};
-ghost use Rattle.iommufd_c.specs.Configured.{is_row, settings_of_rows};
+ghost use Rattle.iommufd_c.specs.Configured.{are_rows, settings_of_rows};
 ghost use Rattle.iommufd_c.specs.Exports.{IsOpened, IsPortGiven, IsShared};
 ghost use Rattle.iommufd_c.specs.Statuses as spec;
 
 use crate::configuring::{DeviceRow, config_of};
+use crate::reserving::ReservedRow;
 use crate::status::{DONE, EBADF, EINVAL, ENOMEM, give_status, open_status};
 use iofd_words::ConfigError;
 use server_handle::Handle;
 use std::alloc::Global;
 
 /// Opens a server for a handle that is closed: with a pool of so many frames, users with these limits of pinned pages,
-/// files of these users, these devices, and so many passes; with so many lanes, and caches of ports of so many pages.
+/// files of these users, these devices with these reserved spans, and so many passes; with so many lanes, and caches of
+/// ports of so many pages.
 #[unsafe(no_mangle)]
 pub extern "C" fn defnulk_raw_open(
     alloc: Global,
@@ -21,15 +22,17 @@ pub extern "C" fn defnulk_raw_open(
     users: &[u64],
     files: &[u16],
     devices: &[DeviceRow],
+    reserved: &[ReservedRow],
     passes: u16,
     lanes: u16,
     cache: u16,
     handle: &mut Handle,
 ) -> i32
-    ensures { IsOpened (list_all is_row devices.now) (settings_of_rows pool users.now files.now devices.now passes)
-        lanes cache handle.old.client result handle.new.client }
+    ensures { IsOpened (are_rows devices.now reserved.now)
+        (settings_of_rows pool users.now files.now devices.now reserved.now passes) lanes cache handle.old.client
+        result handle.new.client }
 {
-    match config_of(alloc, pool, users, files, devices, passes) {
+    match config_of(alloc, pool, users, files, devices, reserved, passes) {
         Ok(config) => open_status(&handle.open(alloc, &config, lanes, cache)),
         Err(ConfigError::Memory) => ENOMEM,
         Err(_) => EINVAL,

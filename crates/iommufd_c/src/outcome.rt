@@ -3,7 +3,7 @@
 ghost use Rattle.std.specs.Prelude.{◌≡◌};
 ghost use Rattle.iommufd_c.specs.Outcomes as spec;
 
-use iofd_words::{Answer, NoMemory, Reply};
+use iofd_words::{Answer, CallError, NoMemory, Reply, Span};
 use server_handle::Access;
 use shared_iommufd::{NotNow, PortCause, Stamp, TryError};
 
@@ -102,6 +102,23 @@ pub(crate) fn look_outcome(told: &Option<Result<Answer, NotNow>>) -> Outcome
         },
         Some(Ok(Answer::Attached(_) | Answer::Walk(_) | Answer::Dirty(_))) | Some(Err(_)) | None =>
             { NOTHING }
+    }
+}
+
+/// What the question for notices tells: how many there are, or why none.
+pub(crate) fn notices_outcome(told: &Option<Result<Vec<Span>, TryError<CallError>>>) -> Outcome
+    ensures { result ≡ spec.notices_outcome told.now }
+{
+    match told {
+        Some(Ok(spans)) => Outcome {
+            value: spans.len() as u64,
+            ..NOTHING
+        },
+        Some(Err(TryError::Call(CallError::Refused(refusal)))) => Outcome {
+            cause: u16::from(refusal.number()),
+            ..NOTHING
+        },
+        Some(Err(TryError::Call(CallError::Memory(_)) | TryError::NotNow(_))) | None => NOTHING,
     }
 }
 

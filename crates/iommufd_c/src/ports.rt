@@ -2,11 +2,12 @@
 
 ghost use Rattle.std.specs.Prelude.{◌≡◌};
 ghost use Rattle.server_handle.specs.declared.turn.Turn.TheVariants as turns;
-ghost use Rattle.iommufd_c.specs.Exports.{IsRead, IsTurned, IsWritten};
+ghost use Rattle.iommufd_c.specs.Exports.{IsRead, IsTranslated, IsTurned, IsWritten, kind_of};
 
 use crate::outcome::{Outcome, access_outcome, call_outcome};
-use crate::status::{access_status, call_status};
-use iofd_words::{Iova, ObjId};
+use crate::status::{access_status, call_status, translate_status};
+use crate::translated::{TranslationRow, put_translation};
+use iofd_words::{AccessKind, Iova, ObjId};
 use server_handle::{Handle, Turn};
 use std::alloc::Global;
 
@@ -88,4 +89,36 @@ pub extern "C" fn defnulk_raw_port_write(
     let access = handle.write(alloc, Iova(iova), bytes);
     *out = access_outcome(bytes.len(), &access);
     access_status(&access)
+}
+
+// The right that is asked for.
+fn kind_of(write: u8) -> AccessKind
+    ensures { result ≡ kind_of write }
+{
+    if write == 0 {
+        AccessKind::Read
+    } else {
+        AccessKind::Write
+    }
+}
+
+/// Tells what the page at the address is translated to for the device, where it has the right to read, or to write where
+/// `write` isn't 0. EFAULT where it is translated to nothing with that right. With each error the translation stays as it
+/// was.
+///
+/// It is good until the port is next flushed, attached or detached.
+#[unsafe(no_mangle)]
+pub extern "C" fn defnulk_raw_port_translate(
+    alloc: Global,
+    handle: &mut Handle,
+    iova: u64,
+    write: u8,
+    translation: &mut TranslationRow,
+) -> i32
+    ensures { IsTranslated iova (kind_of write) handle.old.client result translation.old translation.new
+        handle.new.client }
+{
+    let told = handle.translate(alloc, Iova(iova), kind_of(write));
+    put_translation(translation, &told);
+    translate_status(&told)
 }

@@ -3,9 +3,9 @@
 ghost use Rattle.std.specs.Prelude.{◌≡◌, neg_ℤ, pos};
 ghost use Rattle.iommufd_c.specs.Statuses as spec;
 
-use iofd_words::{Answer, Errno, NoMemory, Reply};
+use iofd_words::{Answer, CallError, Errno, NoMemory, Reply, Span, Translation};
 use server_handle::{Access, GiveError, OpenError};
-use shared_iommufd::{ConfigError, IoctlAnswer, NotNow, PortCause, Stamp, TryError};
+use shared_iommufd::{ConfigError, IoctlAnswer, JournalError, NotNow, PortCause, Stamp, TryError};
 
 pub(crate) const DONE: i32 = 0;
 
@@ -68,6 +68,32 @@ pub(crate) fn look_status(told: &Option<Result<Answer, NotNow>>) -> i32
     }
 }
 
+/// The status of the question for notices.
+pub(crate) fn notices_status(told: &Option<Result<Vec<Span>, TryError<CallError>>>) -> i32
+    ensures { result ≡ spec.notices_status told.now }
+{
+    match told {
+        Some(Ok(_)) => DONE,
+        Some(Err(TryError::Call(CallError::Refused(refusal)))) => error_status(refusal.errno()),
+        Some(Err(TryError::Call(CallError::Memory(_)))) => ENOMEM,
+        Some(Err(TryError::NotNow(_))) => NOT_NOW,
+        None => EBADF,
+    }
+}
+
+/// The status of the question for the journal.
+pub(crate) fn journal_status(told: &Option<Result<Vec<u8>, TryError<JournalError>>>) -> i32
+    ensures { result ≡ spec.journal_status told.now }
+{
+    match told {
+        Some(Ok(_)) => DONE,
+        Some(Err(TryError::Call(JournalError::Unspelt { .. }))) => EINVAL,
+        Some(Err(TryError::Call(JournalError::NoMemory))) => ENOMEM,
+        Some(Err(TryError::NotNow(_))) => NOT_NOW,
+        None => EBADF,
+    }
+}
+
 /// The status of a call of ioctl.
 pub(crate) fn ioctl_status(told: &Option<Result<IoctlAnswer, TryError<NoMemory>>>) -> i32
     ensures { result ≡ spec.ioctl_status told.now }
@@ -98,6 +124,18 @@ pub(crate) fn access_status(access: &Option<Access>) -> i32
             TryError::Call(PortCause::Memory(_)) => ENOMEM,
             TryError::NotNow(_) => NOT_NOW,
         },
+    }
+}
+
+/// The status of the question what a page is translated to.
+pub(crate) fn translate_status(told: &Option<Result<Option<Translation>, NotNow>>) -> i32
+    ensures { result ≡ spec.translate_status told.now }
+{
+    match told {
+        Some(Ok(Some(_))) => DONE,
+        Some(Ok(None)) => EFAULT,
+        Some(Err(_)) => NOT_NOW,
+        None => EBADF,
     }
 }
 

@@ -183,6 +183,13 @@ impl<A: Allocator> Core<A> {
             && access::may_pass(&self.state, device, iova.0, right, frame)
     }
 
+    /// What it was opened with.
+    pub fn config(&self) -> &Config<A>
+        ensures { result.now ≡ self.now.history.settings }
+    {
+        &self.state.config
+    }
+
     /// The records, from the first on.
     pub fn records(&self) -> &[Record<A>]
         ensures value { result.now ≡ self.now.history.records }

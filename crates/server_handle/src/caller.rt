@@ -8,8 +8,10 @@ ghost use Rattle.server_handle.specs.Given.{AreKeysOf, ArePassesOf};
 
 use crate::device::{Device, MARGIN};
 use crate::error::GiveError;
-use iofd_words::{Act, Answer, Config, Event, FileNo, NoMemory, Query};
-use shared_iommufd::{ConfigError, IoctlAnswer, NotNow, Pass, PortKey, Server, Stamp, TryError};
+use iofd_words::{Act, Answer, CallError, Config, Event, FileNo, NoMemory, ObjId, Query, Span};
+use shared_iommufd::{
+    ConfigError, IoctlAnswer, JournalError, NotNow, Pass, PortKey, Server, Stamp, TryError,
+};
 use std::alloc::{AllocError, Global};
 use std::sync::Arc;
 
@@ -74,7 +76,7 @@ impl Caller {
     ghost use Rattle.guarded_core.specs.OfPort.{event_of_port, query_of_port};
     ghost use Rattle.shared_iommufd.specs.Limits.{IsRefusedFor};
     ghost use Rattle.server_handle.specs.Callers.{GivesPort, GivesShare, IsFirst};
-    ghost use Rattle.server_handle.specs.Calls.{Calls, Looks, Serves};
+    ghost use Rattle.server_handle.specs.Calls.{Calls, Looks, Serves, TellsJournal, TellsNotices};
 
     /// Opens a server with this configuration. Its first caller has the last of its passes, all others to give, and the
     /// keys of all devices. The limits are those of `Server::new`.
@@ -172,6 +174,20 @@ impl Caller {
         ensures { Looks query.now self.old result self.new }
     {
         self.server.try_look(&mut self.pass, query)
+    }
+
+    /// Tells the notices of an access object, as `Server::try_notices` does.
+    pub fn notices(&mut self, file: FileNo, access: ObjId) -> Result<Vec<Span>, TryError<CallError>>
+        ensures { TellsNotices file access self.old result self.new }
+    {
+        self.server.try_notices(&mut self.pass, file, access)
+    }
+
+    /// Tells the journal, as `Server::try_journal` does.
+    pub fn journal(&mut self) -> Result<Vec<u8>, TryError<JournalError>>
+        ensures { TellsJournal self.old result self.new }
+    {
+        self.server.try_journal(&mut self.pass)
     }
 
     /// Carries out a call of ioctl, as `Server::try_ioctl` does.

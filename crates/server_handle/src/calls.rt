@@ -11,8 +11,11 @@ use crate::device::{Access, Device};
 use crate::error::{GiveError, OpenError};
 use crate::handle::Handle;
 use crate::turn::Turn;
-use iofd_words::{Answer, Config, Event, FileNo, Iova, NoMemory, Query};
-use shared_iommufd::{ConfigError, IoctlAnswer, NotNow, Stamp, TryError};
+use iofd_words::{
+    AccessKind, Answer, CallError, Config, Event, FileNo, Iova, NoMemory, ObjId, Query, Span,
+    Translation,
+};
+use shared_iommufd::{ConfigError, IoctlAnswer, JournalError, NotNow, Stamp, TryError};
 use std::alloc::Global;
 
 fn boxed(alloc: Global, client: Client) -> Option<Box<Client>>
@@ -60,7 +63,8 @@ impl Handle {
     ghost use Rattle.std.specs.Prelude.{IfNone, None, false, is_some, length};
     ghost use Rattle.guarded_core.specs.OfPort.{event_of_port, query_of_port};
     ghost use Rattle.server_handle.specs.Callers.{GivesPort, GivesShare};
-    ghost use Rattle.server_handle.specs.Calls.{Calls, Looks, ReadsBytes, Serves, TakesTurn, WritesBytes};
+    ghost use Rattle.server_handle.specs.Calls.{Calls, Looks, ReadsBytes, Serves, TakesTurn, TellsNotices};
+    ghost use Rattle.server_handle.specs.Calls.{TellsJournal, TranslatesPage, WritesBytes};
     ghost use Rattle.server_handle.specs.Handles.{GivesDevice, OnCaller, OnDevice, Opens, Shares};
 
     /// Opens a server with this configuration, for a handle that is closed. See `Caller::open`.
@@ -222,6 +226,45 @@ impl Handle {
         }
     }
 
+    /// Tells the notices of an access object to a caller. See `Caller::notices`. None where the handle is no caller's.
+    pub fn notices(
+        &mut self,
+        alloc: Global,
+        file: FileNo,
+        access: ObjId,
+    ) -> Option<Result<Vec<Span>, TryError<CallError>>>
+        ensures { OnCaller self.old.client result self.new.client (TellsNotices file access) }
+    {
+        match self.take(alloc) {
+            Some(mut client) => {
+                let told = match &mut *client {
+                    Client::Caller(caller) => Some(caller.notices(file, access)),
+                    Client::Device(_) | Client::Vacant => None,
+                };
+                *self = Handle::of(client);
+                told
+            }
+            None => None,
+        }
+    }
+
+    /// Tells the journal to a caller. See `Caller::journal`. None where the handle is no caller's.
+    pub fn journal(&mut self, alloc: Global) -> Option<Result<Vec<u8>, TryError<JournalError>>>
+        ensures { OnCaller self.old.client result self.new.client TellsJournal }
+    {
+        match self.take(alloc) {
+            Some(mut client) => {
+                let told = match &mut *client {
+                    Client::Caller(caller) => Some(caller.journal()),
+                    Client::Device(_) | Client::Vacant => None,
+                };
+                *self = Handle::of(client);
+                told
+            }
+            None => None,
+        }
+    }
+
     /// Carries out a caller's call of ioctl. See `Caller::ioctl`. None where the handle is no caller's.
     pub fn ioctl(
         &mut self,
@@ -293,6 +336,28 @@ impl Handle {
                 };
                 *self = Handle::of(client);
                 access
+            }
+            None => None,
+        }
+    }
+
+    /// Tells what a page is translated to for a device. See `Device::translate`. None where the handle is no port's.
+    pub fn translate(
+        &mut self,
+        alloc: Global,
+        iova: Iova,
+        kind: AccessKind,
+    ) -> Option<Result<Option<Translation>, NotNow>>
+        ensures { OnDevice self.old.client result self.new.client (TranslatesPage iova.0 kind) }
+    {
+        match self.take(alloc) {
+            Some(mut client) => {
+                let told = match &mut *client {
+                    Client::Device(device) => Some(device.translate(iova, kind)),
+                    Client::Caller(_) | Client::Vacant => None,
+                };
+                *self = Handle::of(client);
+                told
             }
             None => None,
         }

@@ -5,8 +5,8 @@ ghost use Rattle.std.specs.Arc.{arc_value};
 ghost use Rattle.shared_iommufd.specs.Ports.{IsPortOf};
 
 use crate::turn::Turn;
-use iofd_words::{Iova, NoMemory};
-use shared_iommufd::{Port, PortCause, PortError, Server, Stamp, TryError};
+use iofd_words::{AccessKind, Iova, NoMemory, Translation};
+use shared_iommufd::{NotNow, Port, PortCause, PortError, Server, Stamp, TryError};
 use std::alloc::Global;
 use std::sync::Arc;
 
@@ -46,7 +46,7 @@ pub struct Access {
 }
 
 impl Device {
-    ghost use Rattle.server_handle.specs.Calls.{ReadsBytes, TakesTurn, WritesBytes};
+    ghost use Rattle.server_handle.specs.Calls.{ReadsBytes, TakesTurn, TranslatesPage, WritesBytes};
 
     /// Reads bytes of the device's memory, as `Port::try_read` does.
     pub fn read(&mut self, iova: Iova, buffer: &mut [u8]) -> Access
@@ -63,6 +63,13 @@ impl Device {
         let ended = self.port.try_write(&self.server, iova, bytes);
         let last = self.port.last();
         Access { ended, last }
+    }
+
+    /// Tells what a page is translated to for the device, as `Port::try_translate` does.
+    pub fn translate(&mut self, iova: Iova, kind: AccessKind) -> Result<Option<Translation>, NotNow>
+        ensures { TranslatesPage iova.0 kind self.old result self.new }
+    {
+        self.port.try_translate(&self.server, iova, kind)
     }
 
     /// Makes the record of a turn, as `Port::try_flush`, `try_attach` and `try_detach` do. Before, the port forgets all

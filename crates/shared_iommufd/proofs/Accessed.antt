@@ -30,26 +30,30 @@ use Rattle.iofd_words.specs.Pages.{page_of}
 use Rattle.iofd_words.specs.Run.{IsRun}
 use Rattle.iofd_words.specs.Settings.{Settings}
 use Rattle.iofd_words.specs.Turns.{turns_of}
+use Rattle.iofd_words.specs.declared.fault.AccessKind.{AccessKind}
 use Rattle.iofd_words.specs.declared.fault.AccessKind.TheVariants.{Read, Write}
 use Rattle.iofd_words.specs.declared.numbers.DeviceNo.{DeviceNo}
 use Rattle.iofd_words.specs.declared.query.Answer.{Answer}
 use Rattle.iofd_words.specs.declared.query.Query.TheVariants as query
 use Rattle.iofd_words.specs.declared.query.Translation.{Translation}
+use Rattle.iofd_words.specs.declared.record.Record.{Record}
 use Rattle.iommufd_core.specs.History.{History, may_apply, world}
 use Rattle.lane_lock.specs.History.{Legal, StartsWith}
 use Rattle.lane_lock.specs.Outcomes.{OnlySees}
 use Rattle.lane_lock.specs.Passes.{number_of, view_of}
 use Rattle.port_cache.specs.Cached.{Leaves, Translations, compared}
 use Rattle.port_cache.specs.declared.cache.Found.{Found}
-use Rattle.guarded_core.specs.Caches.{MayKeep, ReadBy, ReadUnder, WriteUnder, found, frame_found}
+use Rattle.guarded_core.specs.Caches.{IsGood, MayKeep, ReadBy, ReadUnder, TranslatedUnder, WriteUnder, found, frame_found}
 use Rattle.guarded_core.specs.Entries.{history_of, maker_of, told}
 use Rattle.guarded_core.specs.Passes.{CoreGhosts, CorePass}
 use Rattle.guarded_core.specs.declared.kept_core.Entry.TheVariants as entry
-use Rattle.guarded_core.proofs.Entered.{same_settings, told_more}
+use Rattle.guarded_core.proofs.Entered.{is_history, same_settings, told_more}
 use Rattle.guarded_core.proofs.Kept.{keeps_found, keeps_later, keeps_serves}
 use Rattle.shared_iommufd.specs.PortReads.{IsReadSo, TellsRead}
+use Rattle.shared_iommufd.specs.PortTranslations.{IsTranslatedSo, TellsTranslation}
 use Rattle.shared_iommufd.specs.PortWrites.{TellsWrite}
 use Rattle.shared_iommufd.specs.Ports.{KeepsSame, Standing}
+use Rattle.shared_iommufd.specs.Seen.{HasSeen}
 use Rattle.shared_iommufd.proofs.DeviceAnswers.{run_before}
 use Rattle.shared_iommufd.proofs.Shown.{has_seen}
 
@@ -84,21 +88,61 @@ module _ {A : Type 0} {g : CoreGhosts A} where
         by = subst (λ (s : Settings). ReadBy s h.records device iova len finds.translation said) e under.by;
       }
 
+  pub tells_translation : (settings : Settings) (o h : History A) (device : DeviceNo) (iova : Iova) (kind : AccessKind)
+      (p : Standing A g) (finds : Found) (q : CorePass A g) → o.settings ≡ settings → o.records ≡ []
+      → StartsWith (told h) (told o) → (view_of q).seen ≡ told h
+      → Legal maker_of (length (told o)) (told h) (number_of q) (view_of q).seen (view_of q).made
+      → TranslatedUnder h device p.turns p.kept iova kind finds → TellsTranslation settings device iova.0 kind p finds q
+  tells_translation settings o h device iova kind p finds q opened fresh starts seen legal under =
+      let e : h.settings ≡ settings = same_settings h o starts ∙ opened in
+      record {
+        records = h.records;
+        seen = has_seen settings o h q opened fresh starts under.run seen legal;
+        turns = under.turned;
+        found = subst (λ (s : Settings). finds.translation ≡ found s h.records device p.turns p.kept iova.0 kind) e
+            under.found_so;
+        right = under.right;
+        backed = subst (λ (x : History A). IfSome finds.translation (IsGood x device (page_of iova.0)))
+            (is_history h settings e) under.backed;
+      }
+
   -- ---- what the port keeps then
+
+  -- what an access found after these records, which the pass has seen
+  keeps_after : (settings : Settings) (device : DeviceNo) (most address : ℕ) (kind : AccessKind) (p q : Standing A g)
+      (records : List (Record A)) (finds : Found) → MayKeep told device (view_of p.pass).seen p.turns p.kept
+      → OnlySees (view_of p.pass) (view_of q.pass) → HasSeen settings q.pass records
+      → finds.turns ≡ turns_of device records
+      → finds.translation ≡ found settings records device p.turns p.kept address kind → q.turns ≡ finds.turns
+      → Leaves most (page_of address) finds.translation (compared p.turns finds.turns p.kept) q.kept
+      → MayKeep told device (view_of q.pass).seen q.turns q.kept
+  keeps_after settings device most address kind p q records finds may sees has turned is turns leaves =
+      let h = history_of settings records in
+      let later : StartsWith (told h) (view_of p.pass).seen =
+      starts_same (view_of q.pass).seen (told h) (view_of p.pass).seen has.seen sees.later in
+      keeps_found h device has.run p.turns p.kept (view_of q.pass).seen q.turns most address kind finds.translation q.kept
+      (itself (view_of q.pass).seen (told h) has.seen)
+      (keeps_serves device h (view_of p.pass).seen p.turns p.kept later may) (turns ∙ turned) is
+      (subst (λ (n : ℕ). Leaves most (page_of address) finds.translation (compared p.turns n p.kept) q.kept) turned
+      leaves)
 
   pub keeps_read : (settings : Settings) (device : DeviceNo) (most address len : ℕ) (p : Standing A g) (said : Answer)
       (q : Standing A g) → MayKeep told device (view_of p.pass).seen p.turns p.kept
       → IsReadSo settings device most address len p said q → MayKeep told device (view_of q.pass).seen q.turns q.kept
   keeps_read settings device most address len p said q may read =
       let tells = read.tells in
-      let h = history_of settings tells.records in
-      let later : StartsWith (told h) (view_of p.pass).seen =
-      starts_same (view_of q.pass).seen (told h) (view_of p.pass).seen tells.seen.seen read.sees.later in
-      keeps_found h device tells.seen.run p.turns p.kept (view_of q.pass).seen q.turns most address Read
-      read.finds.translation q.kept (itself (view_of q.pass).seen (told h) tells.seen.seen)
-      (keeps_serves device h (view_of p.pass).seen p.turns p.kept later may) (read.turns ∙ tells.turns) tells.found
-      (subst (λ (n : ℕ). Leaves most (page_of address) read.finds.translation (compared p.turns n p.kept) q.kept)
-      tells.turns read.leaves)
+      keeps_after settings device most address Read p q tells.records read.finds may read.sees tells.seen tells.turns
+      tells.found read.turns read.leaves
+
+  pub keeps_translated : (settings : Settings) (device : DeviceNo) (most address : ℕ) (kind : AccessKind)
+      (p : Standing A g) (said : Option Translation) (q : Standing A g)
+      → MayKeep told device (view_of p.pass).seen p.turns p.kept
+      → IsTranslatedSo settings device most address kind p said q
+      → MayKeep told device (view_of q.pass).seen q.turns q.kept
+  keeps_translated settings device most address kind p said q may so =
+      let tells = so.tells in
+      keeps_after settings device most address kind p q tells.records so.finds may so.sees tells.seen tells.turns
+      tells.found so.turns so.leaves
 
   pub keeps_written : (settings : Settings) (device : DeviceNo) (most address : ℕ) (bytes : List ℕ) (p : Standing A g)
       (finds : Found) (stamp : Stamp) (q : CorePass A g) (turns : ℕ) (kept : Translations)

@@ -6,6 +6,7 @@ pub mod IoctlBytes
 pub mod Keys
 pub mod Passed
 pub mod PortReads
+pub mod PortTranslations
 pub mod PortWrites
 pub mod SamePorts
 pub mod Shown

@@ -17,6 +17,7 @@ use Rattle.ioctl_codec.specs.declared.command.RangesRequest.{RangesRequest}
 use Rattle.iommufd_core.specs.History.{History}
 use Rattle.iommufd_core.specs.declared.apply.Stamp.{Stamp}
 use Rattle.iova_ranges.specs.declared.range_set.RangeSet.{RangeSet}
+use Rattle.journal_audit_writing.specs.declared.whole.JournalError.{JournalError}
 use Rattle.lane_lock.specs.History.{Legal, StartsWith, made_by}
 use Rattle.lane_lock.specs.Outcomes.{OnlySees}
 use Rattle.lane_lock.specs.Passes.{SamePass, number_of, view_of}
@@ -27,8 +28,8 @@ use Rattle.guarded_core.specs.Told.{TellsRanges}
 use Rattle.shared_iommufd.specs.Ioctls.{AnswersRanges, AnswersSet, IsTold}
 use Rattle.shared_iommufd.specs.Made.{Makes}
 use Rattle.guarded_core.specs.Passes.{CoreGhosts, CorePass}
-use Rattle.shared_iommufd.specs.Seen.{AreNotices, HasSeen, IsAnswered}
-use Rattle.guarded_core.specs.Told.{TellsNotices}
+use Rattle.shared_iommufd.specs.Seen.{AreNotices, HasSeen, IsAnswered, IsJournalOf}
+use Rattle.guarded_core.specs.Told.{TellsJournal, TellsNotices}
 use Rattle.shared_iommufd.specs.declared.ioctl_answer.IoctlAnswer.{IoctlAnswer}
 use Rattle.guarded_core.specs.declared.kept_core.Entry.{Entry}
 use Rattle.guarded_core.specs.declared.kept_core.Entry.TheVariants as entry
@@ -88,6 +89,20 @@ module _ {A : Type 0} {g : CoreGhosts A} where
         records = h.records;
         seen = has_seen settings o h p opened fresh starts run seen legal;
         tells = subst (λ (x : History A). TellsNotices x file access answer) (is_history h settings e) tells;
+      }
+
+  -- and has told its journal so
+  pub journalled : (settings : Settings) (o h : History A) (p : CorePass A g) (answer : Result (Vec ℕ A) JournalError)
+      → o.settings ≡ settings → o.records ≡ [] → StartsWith (told h) (told o) → IsRun h.settings h.records
+      → (view_of p).seen ≡ told h
+      → Legal maker_of (length (told o)) (told h) (number_of p) (view_of p).seen (view_of p).made
+      → TellsJournal h answer → IsJournalOf settings p answer
+  journalled settings o h p answer opened fresh starts run seen legal tells =
+      let e : h.settings ≡ settings = same_settings h o starts ∙ opened in
+      record {
+        records = h.records;
+        seen = has_seen settings o h p opened fresh starts run seen legal;
+        tells = subst (λ (x : History A). TellsJournal x answer) (is_history h settings e) tells;
       }
 
   -- and the core h has told ranges so

@@ -5,6 +5,7 @@ pub mod Limits
 pub mod Made
 pub mod Pieces
 pub mod PortReads
+pub mod PortTranslations
 pub mod PortWrites
 pub mod Ports
 pub mod Seen

@@ -1,5 +1,5 @@
 -- What a question shows to its pass.
-use Rattle.std.specs.Prelude.{◌≡◌, List, Result, Ok, Err, Vec}
+use Rattle.std.specs.Prelude.{◌≡◌, ℕ, List, Result, Ok, Err, Vec}
 use Rattle.iofd_words.specs.Bounds.{Bounds}
 use Rattle.iofd_words.specs.Look.{answers_to}
 use Rattle.iofd_words.specs.Run.{IsRun}
@@ -10,13 +10,14 @@ use Rattle.iofd_words.specs.declared.numbers.ObjId.{ObjId}
 use Rattle.iofd_words.specs.declared.query.Answer.{Answer}
 use Rattle.iofd_words.specs.declared.query.Query.{Query}
 use Rattle.iofd_words.specs.declared.record.Record.{Record}
+use Rattle.journal_audit_writing.specs.declared.whole.JournalError.{JournalError}
 use Rattle.lane_lock.specs.History.{Legal}
 use Rattle.lane_lock.specs.Outcomes.{MetNone, RefusesRead}
 use Rattle.lane_lock.specs.Passes.{lane_of, number_of, view_of}
 use Rattle.server_state.specs.Choice.{IsLooked}
 use Rattle.guarded_core.specs.Entries.{history_of, maker_of, told}
 use Rattle.guarded_core.specs.Passes.{CoreGhosts, CorePass}
-use Rattle.guarded_core.specs.Told.{TellsNotices}
+use Rattle.guarded_core.specs.Told.{TellsJournal, TellsNotices}
 use Rattle.guarded_core.specs.declared.try_error.TryError.{TryError}
 use Rattle.guarded_core.specs.declared.try_error.TryError.TheVariants as tried
 
@@ -50,3 +51,18 @@ module _ {A : Type 0} {g : CoreGhosts A} where
       AreNotices settings q file access (Err failed) × MetNone (view_of p) (view_of q)
   AreTriedNotices settings p q file access (Err (tried.NotNow refused)) =
       RefusesRead (view_of p) (view_of q) (lane_of p) refused
+
+  -- the journal is told of all records that the pass has seen, and no others, or why there is none
+  pub record IsJournalOf (settings : Settings) (p : CorePass A g) (answer : Result (Vec ℕ A) JournalError) : Type 0
+    where
+      pub records : List (Record A)
+      pub seen : HasSeen settings p records
+      pub tells : TellsJournal (history_of settings records) answer
+
+  -- the same of a question that doesn't wait
+  abbrev pub IsTriedJournalOf : Settings → CorePass A g → CorePass A g → Result (Vec ℕ A) (TryError JournalError)
+      → Type 0
+  IsTriedJournalOf settings p q (Ok bytes) = IsJournalOf settings q (Ok bytes)
+  IsTriedJournalOf settings p q (Err (tried.Call failed)) =
+      IsJournalOf settings q (Err failed) × MetNone (view_of p) (view_of q)
+  IsTriedJournalOf settings p q (Err (tried.NotNow refused)) = RefusesRead (view_of p) (view_of q) (lane_of p) refused

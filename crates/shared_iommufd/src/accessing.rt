@@ -4,11 +4,12 @@ ghost use Rattle.std.specs.Prelude.{◌≡◌, true, false, length};
 ghost use Rattle.iofd_words.specs.Files.{is_device};
 ghost use Rattle.iofd_words.specs.Pages.{crosses};
 ghost use Rattle.shared_iommufd.specs.PortReads.{TellsRead};
+ghost use Rattle.shared_iommufd.specs.PortTranslations.{TellsTranslation};
 ghost use Rattle.shared_iommufd.specs.PortWrites.{TellsWrite};
 
 use crate::server::{Pass, Server};
-use guarded_core::{KeptCore, PortRead, TryError, try_commit_later, try_show_later};
-use iofd_words::{Answer, Burst, DeviceNo, Iova, NoMemory};
+use guarded_core::{KeptCore, PortRead, PortWalk, TryError, try_commit_later, try_show_later};
+use iofd_words::{AccessKind, Answer, Burst, DeviceNo, Iova, NoMemory};
 use iommufd_core::Stamp;
 use lane_lock::NotNow;
 use port_cache::{Found, PortCache};
@@ -51,6 +52,34 @@ impl<A: Allocator + Copy> Server<A> {
             len,
         };
         try_show_later(&self.lock, pass, read, KeptCore::read)
+    }
+
+    // Finds what a device's page is translated to by what a cache keeps, without waiting.
+    pub(crate) fn try_translate_by(
+        &self,
+        pass: &mut Pass<A>,
+        cache: &PortCache<A>,
+        device: DeviceNo,
+        iova: Iova,
+        kind: AccessKind,
+    ) -> Result<Found, NotNow>
+        requires owned { IsPassOf self.now pass.old }
+        requires known { is_device (settings_of self.now) device ≡ true }
+        requires kept { MayKeep told device (view_of pass.old).seen cache.now.turns cache.now.pages.entries }
+        ensures same_pass { SamePass pass.old pass.new }
+        ensures owned { IsPassOf self.now pass.new }
+        ensures sees { OnlySees (view_of pass.old) (view_of pass.new) }
+        ensures tells { IfOk result (λ found. TellsTranslation (settings_of self.now) device iova.0 kind
+            (stands_so pass.old cache.now) found pass.new) }
+        ensures refused { IfErr result (RefusesRead (view_of pass.old) (view_of pass.new) (lane_of pass.old)) }
+    {
+        let walk = PortWalk {
+            cache,
+            device,
+            iova,
+            kind,
+        };
+        try_show_later(&self.lock, pass, walk, KeptCore::translate)
     }
 
     // Writes for a device by what a cache keeps, without waiting.

@@ -67,8 +67,8 @@ impl<A: Allocator + Copy> Port<A> {
         self.device
     }
 
-    /// The place, among the records, of the last one that the latest call made: the latest read, write, flush,
-    /// attachment or detachment by this port, waiting or not. None where it made none.
+    /// The place, among the records, of the last one that the latest call made: the latest read, write, translation,
+    /// flush, attachment or detachment by this port, waiting or not. None where it made none.
     pub fn last(&self) -> Option<u64>
         ensures { result ≡ self.now.last }
     {
