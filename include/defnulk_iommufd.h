@@ -363,8 +363,8 @@ static inline int32_t defnulk_free_frames(struct defnulk_handle *handle, struct 
    `iommufd audit` says whether a server may have made these records. They stand at the front of `room`, as far as that
    has place, and its rest stays; `written` says how many bytes the journal has. Where these are more than room_len, the
    call is made again with more room (other handles may make further records meanwhile). `room` may be null where
-   room_len is 0. It makes no record. -EBADF, -ENOMEM, DEFNULK_NOT_NOW; -EINVAL where a record has no spelling, which
-   none has that these calls make. With each `written` is 0, and `room` stays as it was. */
+   room_len is 0. It makes no record. -EBADF, -ENOMEM, DEFNULK_NOT_NOW; -EINVAL where a record has no spelling: none
+   that these calls make, though no proof says so. With each `written` is 0, and `room` stays as it was. */
 static inline int32_t defnulk_journal(struct defnulk_handle *handle, void *room, size_t room_len, size_t *written) {
     uint8_t none[1];
     if (handle == NULL || (room == NULL && room_len > 0) || written == NULL)

@@ -125,15 +125,21 @@ static void close_file(int descriptor) {
 
 /* ---- Calls of ioctl */
 
-/* Gives the user the pages of a span that it doesn't have. What is no span of pages the server refuses itself. */
-static int32_t give_pages(uint64_t va, uint64_t length) {
+/* Gives the user a page. One that it has stays. */
+static int32_t give_page(uint64_t va) {
     struct defnulk_outcome out;
+    int32_t status;
+    do
+        status = defnulk_user_map(&server, USER_ONE, va, &out);
+    while (status == DEFNULK_NOT_NOW && sched_yield() == 0);
+    return status == -EEXIST ? 0 : status;
+}
+
+/* Gives the user the pages of a span, as long as there are frames. What is no span of pages the server refuses. */
+static int32_t give_pages(uint64_t va, uint64_t length) {
     int32_t status = 0;
-    for (uint64_t done = 0; done < length && (status == 0 || status == -EEXIST); done += PAGE) {
-        do
-            status = defnulk_user_map(&server, USER_ONE, va + done, &out);
-        while (status == DEFNULK_NOT_NOW && sched_yield() == 0);
-    }
+    for (uint64_t done = 0; done < length && status == 0; done += PAGE)
+        status = give_page(va + done);
     return status == -ENOMEM ? status : 0;
 }
 
