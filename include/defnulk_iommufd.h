@@ -19,10 +19,12 @@
  * A port's read or write is served in pieces, and the outcome's value says how many bytes have passed before any of
  * these: with DEFNULK_NOT_NOW it has to be made again for the rest alone.
  *
- * Every other errno is the server's: a refusal, with the number of its cause in outcome.cause (those of `Cause` in
- * crates/iofd_words/src/refusal.rt), which changed nothing, and is a record but for a question; or a denied access,
- * -EFAULT with the reason in outcome.fault. A few calls have no outcome, and say themselves what an errno means; that
- * of defnulk_ioctl is what the kernel's call answers.
+ * Every other errno is the server's: a refusal, with the number of its cause in outcome.cause (enum defnulk_cause),
+ * which changed nothing, and is a record but for a question; or a denied access, -EFAULT with the reason in
+ * outcome.fault. A few calls have no outcome, and say themselves what an errno means; that of defnulk_ioctl is what the
+ * kernel's call answers. -EDEADLK is the errno 35, which linux/iommufd.h calls EDEADLOCK.
+ *
+ * DEFNULK_NOT_NOW comes where another thread is in a call of the same server, or was just now.
  *
  * HANDLES. A handle begins as DEFNULK_CLOSED, and is from then on only what these calls made of it: its bytes are
  * never copied, compared or written by anybody else. (It may be moved: the old place is then DEFNULK_CLOSED again.)
@@ -61,6 +63,79 @@ struct defnulk_handle {
 };
 
 #define DEFNULK_CLOSED { 0 }
+
+/* Why the server refuses a call: the number in outcome.cause, with the errno that stands beside it. */
+enum defnulk_cause {
+    DEFNULK_CAUSE_NUMBER = 1, /* ENOTTY: the command's number isn't served */
+    DEFNULK_CAUSE_SHORT = 2, /* EINVAL: the structure, or the bytes given, are too short */
+    DEFNULK_CAUSE_TAIL = 3, /* E2BIG: the size is above 4096, or a byte past the known structure isn't zero */
+    DEFNULK_CAUSE_UNSUPPORTED = 4, /* EOPNOTSUPP: an unknown flag bit, or a reserved field that isn't 0 */
+    DEFNULK_CAUSE_ARRAY = 5, /* EINVAL: the wrong number of bytes after the structure */
+    DEFNULK_CAUSE_FRAMES = 6, /* ENOMEM: the pool has fewer free frames than the step needs */
+    DEFNULK_CAUSE_ACCOUNT = 7, /* ENOMEM: the user's limit of pinned pages would be passed */
+    DEFNULK_CAUSE_ABSENT = 8, /* EFAULT: a page isn't in the user's memory */
+    DEFNULK_CAUSE_OVERLAP = 9, /* EEXIST: the span meets an area, or the user page is mapped already */
+    DEFNULK_CAUSE_SPAN = 10, /* ENOENT: no area, a gap, a cut area, or no exact match */
+    /* ENOENT: a closed or unknown file, an unknown user or device, a device that isn't bound, an id that isn't this
+       file's or is of another kind */
+    DEFNULK_CAUSE_ID = 11,
+    DEFNULK_CAUSE_IN_USE = 12, /* EBUSY: others still use the object */
+    DEFNULK_CAUSE_BOUND = 13, /* EBUSY: already bound or attached; a DESTROY of a device object */
+    DEFNULK_CAUSE_WIDTH = 14, /* EINVAL: the device and the hardware page table have different widths */
+    DEFNULK_CAUSE_NARROW = 15, /* EADDRINUSE: an area or an allowed range would lie outside the usable ranges */
+    DEFNULK_CAUSE_RIGHTS = 16, /* EPERM: a right that the area, the memory object or the pin doesn't have */
+    DEFNULK_CAUSE_LEAVING = 17, /* EINVAL: a pin in a leaving area */
+    DEFNULK_CAUSE_NOT_HELD = 18, /* EINVAL: no such held pin */
+    DEFNULK_CAUSE_SUM = 19, /* EOVERFLOW: start plus length is above 2^64 */
+    /* EINVAL: a length of 0; a length or an address that isn't a multiple of 4096; a user page at or above 2^48 */
+    DEFNULK_CAUSE_ALIGN = 20,
+    DEFNULK_CAUSE_NO_RIGHT = 21, /* EINVAL: neither READABLE nor WRITEABLE */
+    DEFNULK_CAUSE_RESERVED = 22, /* EINVAL: a fixed span outside the usable ranges */
+    DEFNULK_CAUSE_FULL = 23, /* ENOSPC: no room for a chosen address, or a limit reached */
+    DEFNULK_CAUSE_LIST = 24, /* EINVAL: allowed ranges that are empty or overlap */
+    DEFNULK_CAUSE_PLACES = 25, /* EMSGSIZE: fewer places than ranges */
+    DEFNULK_CAUSE_CROSS = 26, /* EINVAL: an access of 0 or more than 64 bytes, or across a page */
+    DEFNULK_CAUSE_INTERRUPT_RANGE = 27, /* EINVAL: an access of an x86 device to its interrupt range */
+    DEFNULK_CAUSE_UNATTACHED = 28, /* ENOENT: the device or access isn't attached */
+    DEFNULK_CAUSE_PENDING = 29, /* EBUSY: the first hardware page table while an area is leaving */
+    /* EINVAL: a hardware page table whose written pages aren't tracked, or more than 256 pages at once */
+    DEFNULK_CAUSE_TRACKING = 30,
+};
+
+/* The numbers of ioctl. The first eight are those of linux/iommufd.h, the last two are Defnulk's own. */
+enum defnulk_ioctl_number {
+    DEFNULK_DESTROY = 0x3b80,
+    DEFNULK_IOAS_ALLOC = 0x3b81,
+    DEFNULK_IOAS_ALLOW_IOVAS = 0x3b82,
+    DEFNULK_IOAS_COPY = 0x3b83,
+    DEFNULK_IOAS_IOVA_RANGES = 0x3b84,
+    DEFNULK_IOAS_MAP = 0x3b85,
+    DEFNULK_IOAS_UNMAP = 0x3b86,
+    DEFNULK_HWPT_ALLOC = 0x3b89,
+    DEFNULK_DIRTY_ENABLE = 0x3bf0,
+    DEFNULK_DIRTY_REPORT = 0x3bf1
+};
+
+/* The flags of IOAS_MAP and IOAS_COPY. */
+enum defnulk_map_flag { DEFNULK_FIXED_IOVA = 1, DEFNULK_WRITEABLE = 2, DEFNULK_READABLE = 4 };
+
+/* Their structures, laid out as in linux/iommufd.h, for where that isn't there. `size` is the structure's own; reserved
+   fields are 0, and so are pointers, which are ignored: arrays stand behind the structure. docs/SCRIPT.md says what
+   each does. */
+struct defnulk_ioctl_destroy { uint32_t size, id; };
+struct defnulk_ioas_alloc { uint32_t size, flags, out_ioas_id; };
+struct defnulk_iova_range { uint64_t start, last; };
+struct defnulk_ioas_allow_iovas { uint32_t size, ioas_id, num_iovas, reserved; uint64_t allowed_iovas; };
+struct defnulk_ioas_iova_ranges {
+    uint32_t size, ioas_id, num_iovas, reserved;
+    uint64_t allowed_iovas, out_iova_alignment;
+};
+struct defnulk_ioas_map { uint32_t size, flags, ioas_id, reserved; uint64_t user_va, length, iova; };
+struct defnulk_ioas_copy { uint32_t size, flags, dst_ioas_id, src_ioas_id; uint64_t length, dst_iova, src_iova; };
+struct defnulk_ioas_unmap { uint32_t size, ioas_id; uint64_t iova, length; };
+struct defnulk_hwpt_alloc { uint32_t size, flags, dev_id, pt_id, out_hwpt_id, reserved; };
+struct defnulk_dirty_enable { uint32_t size, hwpt_id, flags, reserved; };
+struct defnulk_dirty_report { uint32_t size, hwpt_id, flags, reserved; uint64_t iova, length; };
 
 /* What a call tells beside its result. Each call that takes one writes it, unless a null pointer, a length or an
    overlap is refused before: then it stays as it was. */
@@ -281,8 +356,9 @@ static inline int32_t defnulk_close(struct defnulk_handle *handle) {
    was given a place for; what of it `room` has no place for isn't written. The rest of `room` stays. 0, or the errno
    that the kernel's call has, DEFNULK_NOT_NOW, -EBADF, -ENOMEM (a refusal of the server, too: then a limit of pinned
    pages or the pool is at its end); -EINVAL where the room has less than DEFNULK_LEAST_ROOM bytes. An UNMAP that has
-   to wait for a device is -EAGAIN, or -EDEADLK after many tries: it is called again once the device's port was
-   flushed. */
+   to wait for a device is -EAGAIN, or -EDEADLK after a hundred tries: it is called again once the device's port was
+   flushed. Each call makes a record, a refused one and each try of an UNMAP too, but for IOAS_IOVA_RANGES, a
+   DIRTY_REPORT that doesn't clear, bytes that spell no command, and want of memory. */
 static inline int32_t defnulk_ioctl(struct defnulk_handle *handle, uint16_t file, uint32_t number, const void *bytes,
                                     size_t len, void *room, size_t room_len, size_t *written) {
     if (handle == NULL || (bytes == NULL && len > 0) || room == NULL || written == NULL)
@@ -469,9 +545,10 @@ static inline int32_t defnulk_port_write(struct defnulk_handle *handle, uint64_t
    read: for a program that holds the frames' memory itself, and does the device's accesses there. Until the device's
    next flush, attachment or detachment by this port the frame is given to nobody else, whatever anybody unmaps. So long
    the program may keep the translation, for accesses of the rights that it tells; it gives it up before it calls one of
-   these three, and an UNMAP of the page waits for that. The call makes no record; the server knows nothing of these
-   accesses, so they make none either, and mark no page as written (DIRTY_REPORT). -EFAULT: nothing that the device may
-   use maps the page with that right. -EBADF, DEFNULK_NOT_NOW. With each `translation` stays as it was. */
+   these three, and an UNMAP of the page waits for that. The port may keep the page, too, as of defnulk_port_read. The
+   call makes no record; the server knows nothing of the program's accesses, so they make none either, and mark no page
+   as written (DIRTY_REPORT). -EFAULT: nothing that the device may use maps the page with that right. -EBADF,
+   DEFNULK_NOT_NOW. With each `translation` stays as it was. */
 static inline int32_t defnulk_port_translate(struct defnulk_handle *handle, uint64_t iova, uint8_t write,
                                              struct defnulk_translation *translation) {
     if (handle == NULL || translation == NULL)
