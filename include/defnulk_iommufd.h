@@ -6,8 +6,8 @@
  * one history of records: a call that changes something makes one, or none.
  *
  * RESULTS. Each call answers an int32_t: 0, or the negative number of an errno (-EINVAL), or DEFNULK_NOT_NOW: it can't
- * be served now, as where another call is on the way; it did nothing, and has to be made again. No call waits or takes
- * a lock. What else a call tells stands in a struct defnulk_outcome. Where outcome.cause and outcome.fault are 0, these
+ * be served now, as where another call is on the way; it did nothing, and has to be made again. No call waits.
+ * What else a call tells stands in a struct defnulk_outcome. Where outcome.cause and outcome.fault are 0, these
  * errnos are the library's own, and the call did nothing:
  *
  *   -EBADF    the handle is closed, or of the other kind (a port's where a caller's is asked for, or a caller's)
@@ -22,7 +22,7 @@
  * Every other errno is the server's: a refusal, with the number of its cause in outcome.cause (enum defnulk_cause),
  * which changed nothing, and is a record but for a question; or a denied access, -EFAULT with the reason in
  * outcome.fault. A few calls have no outcome, and say themselves what an errno means; that of defnulk_ioctl is what the
- * kernel's call answers. -EDEADLK is the errno 35, which linux/iommufd.h calls EDEADLOCK.
+ * kernel's call answers. -EDEADLK is the errno that Linux calls EDEADLOCK, too.
  *
  * DEFNULK_NOT_NOW comes where another thread is in a call of the same server, or was just now.
  *
@@ -435,12 +435,13 @@ static inline int32_t defnulk_free_frames(struct defnulk_handle *handle, struct 
     return fit != 0 ? fit : defnulk_raw_free_frames(handle, out);
 }
 
-/* The journal of all records so far, whichever handle made them: bytes of version 2 of docs/JOURNAL.md, of which
-   `iommufd audit` says whether a server may have made these records. They stand at the front of `room`, as far as that
-   has place, and its rest stays; `written` says how many bytes the journal has. Where these are more than room_len, the
-   call is made again with more room (other handles may make further records meanwhile). `room` may be null where
-   room_len is 0. It makes no record. -EBADF, -ENOMEM, DEFNULK_NOT_NOW; -EINVAL where a record has no spelling: none
-   that these calls make, though no proof says so. With each `written` is 0, and `room` stays as it was. */
+/* The journal of the records that there are when the call is served, whichever handles made them; proved is that all
+   which this handle has seen are in it. They are bytes of version 2 of docs/JOURNAL.md, of which `iommufd audit` says
+   whether a server may have made these records. They stand at the front of `room`, as far as that has place, and its
+   rest stays; `written` says how many bytes the journal has. Where these are more than room_len, the call is made again
+   with more room (other handles may make further records meanwhile). `room` may be null where room_len is 0. It makes
+   no record. -EBADF, -ENOMEM, DEFNULK_NOT_NOW, and -EINVAL where a record has no spelling: none that these calls make,
+   though no proof says so. With each of these `written` is 0, and `room` stays as it was. */
 static inline int32_t defnulk_journal(struct defnulk_handle *handle, void *room, size_t room_len, size_t *written) {
     uint8_t none[1];
     if (handle == NULL || (room == NULL && room_len > 0) || written == NULL)
@@ -547,8 +548,8 @@ static inline int32_t defnulk_port_write(struct defnulk_handle *handle, uint64_t
    the program may keep the translation, for accesses of the rights that it tells; it gives it up before it calls one of
    these three, and an UNMAP of the page waits for that. The port may keep the page, too, as of defnulk_port_read. The
    call makes no record; the server knows nothing of the program's accesses, so they make none either, and mark no page
-   as written (DIRTY_REPORT). -EFAULT: nothing that the device may use maps the page with that right. -EBADF,
-   DEFNULK_NOT_NOW. With each `translation` stays as it was. */
+   as written (DIRTY_REPORT). -EFAULT: no live area maps the page for the device with that right, and the port keeps no
+   such page. -EBADF, DEFNULK_NOT_NOW. With each `translation` stays as it was. */
 static inline int32_t defnulk_port_translate(struct defnulk_handle *handle, uint64_t iova, uint8_t write,
                                              struct defnulk_translation *translation) {
     if (handle == NULL || translation == NULL)
