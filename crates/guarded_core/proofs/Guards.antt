@@ -7,6 +7,7 @@ use Rattle.lane_lock.specs.History.{Legal, StartsWith, made_by}
 use Rattle.lane_lock.specs.Outcomes.{KeepsHistory, OnlySees, RefusesRead}
 use Rattle.lane_lock.specs.Passes.{Commits, IsWriting, Owns, SamePass, ShowsValue, number_of, opening_of, view_of}
 use Rattle.lane_lock.specs.Steps.{share_history}
+use Rattle.lane_lock.specs.Views.{IsBlank}
 use Rattle.lane_lock.specs.declared.kept.Kept as kept
 use Rattle.lane_lock.specs.declared.lock.LaneLock.{LaneLock}
 use Rattle.lane_lock.specs.declared.pass.Pass.{Pass}
@@ -22,15 +23,16 @@ module _ {K A S E : Type 0} {g : kept.Ghosts K A S E} where
   pub shown : (lock of_guard : LaneLock K A S E) (p q : Pass K A S E g) (value : K) → of_guard ≡ lock
       → g.history value ≡ (view_of p).seen → StartsWith (g.history value) (opening_of g.history of_guard)
       → Legal g.maker (length (opening_of g.history of_guard)) (g.history value) (number_of p) (view_of p).seen
-      (view_of p).made → SamePass p q → KeepsHistory (view_of p) (view_of q) → (last : Pass K A S E g) → q ≡ last
-      → Shown lock last value
-  shown lock of_guard p q value is seen opened legal same keeps last ends =
+      (view_of p).made → SamePass p q → KeepsHistory (view_of p) (view_of q) → IsBlank (view_of q)
+      → (last : Pass K A S E g) → q ≡ last → Shown lock last value
+  shown lock of_guard p q value is seen opened legal same keeps home last ends =
       subst (λ (r : Pass K A S E g). Shown lock r value) ends record {
         seen = keeps.seen ∙ sym seen;
         opened = subst (λ (l : LaneLock K A S E). StartsWith (g.history value) (opening_of g.history l)) is opened;
         legal = subst (λ (c : LaneLock K A S E × ℕ × List E × List E).
             Legal g.maker (length (opening_of g.history c.0)) (g.history value) c.1 c.2 c.3)
             (λ i. (is i, sym same.number i, sym keeps.seen i, sym keeps.made i)) legal;
+        home = home;
       }
 
   -- a guard shows one value
@@ -46,9 +48,9 @@ module _ {K A S E : Type 0} {g : kept.Ghosts K A S E} where
   -- What holds of the value that the guard showed holds of the one before the act.
   pub committed_of : (lock : LaneLock K A S E) (p q r : Pass K A S E g) (act : A) (stamp : S) → Owns lock p
       → IsWriting lock q → SamePass p q → OnlySees (view_of p) (view_of q) → (commits : Commits q act stamp r)
-      → (last : Pass K A S E g) → r ≡ last → (Holds : K → Type 0) → Holds commits.value
+      → IsBlank (view_of r) → (last : Pass K A S E g) → r ≡ last → (Holds : K → Type 0) → Holds commits.value
       → (c : Committed lock p act stamp last) × Holds c.before
-  committed_of lock p q r act stamp owned writing same sees commits last ends Holds holds =
+  committed_of lock p q r act stamp owned writing same sees commits home last ends Holds holds =
       let all : g.history commits.value ≡ (view_of q).seen =
       ap g.history (sym commits.shown.2)
       ∙ (ap (λ x. share_history g.history x []) (sym commits.shown.1) ∙ writing.shows) in
@@ -67,15 +69,16 @@ module _ {K A S E : Type 0} {g : kept.Ghosts K A S E} where
           seen = commits.seen;
           grown = commits.appends.seen ∙ ap (λ (l : List E). l ++ commits.entry ∷ []) (sym all);
           own = commits.appends.made ∙ ap (λ (l : List E). l ++ commits.entry ∷ []) sees.made;
+          home = home;
         },
         holds,
       )
 
   pub committed : (lock : LaneLock K A S E) (p q r : Pass K A S E g) (act : A) (stamp : S) → Owns lock p
       → IsWriting lock q → SamePass p q → OnlySees (view_of p) (view_of q) → Commits q act stamp r
-      → (last : Pass K A S E g) → r ≡ last → Committed lock p act stamp last
-  committed lock p q r act stamp owned writing same sees commits last ends =
-      (committed_of lock p q r act stamp owned writing same sees commits last ends (λ value. Unit {0}) tt).0
+      → IsBlank (view_of r) → (last : Pass K A S E g) → r ≡ last → Committed lock p act stamp last
+  committed lock p q r act stamp owned writing same sees commits home last ends =
+      (committed_of lock p q r act stamp owned writing same sees commits home last ends (λ value. Unit {0}) tt).0
 
 module _ {E : Type 0} where
   keeps_sees : (v w : View E) → KeepsHistory v w → OnlySees v w

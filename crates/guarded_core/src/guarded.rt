@@ -6,6 +6,7 @@ ghost use Rattle.std.specs.Fn.{FnReturnsAt};
 ghost use Rattle.lane_lock.specs.History.{StartsWith};
 ghost use Rattle.lane_lock.specs.Outcomes.{MetNone, OnlySees, RefusesRead};
 ghost use Rattle.lane_lock.specs.Passes.{Owns, SamePass, lane_of, lanes_of, opening_of, view_of};
+ghost use Rattle.lane_lock.specs.Views.{IsBlank};
 ghost use Rattle.guarded_core.specs.Guarded.{Committed, RefusesCommit, Shown};
 
 use crate::try_error::TryError;
@@ -99,6 +100,7 @@ pub fn commit<R: Wait, K: Kept>(
     ensures owned { Owns lock.now pass.new }
     ensures committed { IfOk result (λ stamp. Committed lock.now pass.old act.now stamp pass.new) }
     ensures refused { IfErr result (λ _. OnlySees (view_of pass.old) (view_of pass.new)) }
+    ensures home { IsBlank (view_of pass.new) }
 {
     lock.write(rt, pass).commit(act)
 }
@@ -114,6 +116,7 @@ pub fn try_commit<K: Kept>(
     ensures same_pass { SamePass pass.old pass.new }
     ensures owned { Owns lock.now pass.new }
     ensures committed { IfOk result (λ stamp. Committed lock.now pass.old act.now stamp pass.new) }
+    ensures met { IfOk result (λ _. MetNone (view_of pass.old) (view_of pass.new)) }
     ensures refused { IfErr result (RefusesCommit (lanes_of lock.now) (view_of pass.old) (view_of pass.new)) }
 {
     match pass.try_write(lock) {
@@ -143,6 +146,7 @@ where
     ensures owned { Owns lock.now pass.new }
     ensures committed { IfOk result (λ r. (act : K.Act) × (c : Committed lock.now pass.old act r.1 pass.new)
         × FnReturnsAt F.Fn make.now c.before (r.0, act)) }
+    ensures met { IfOk result (λ _. MetNone (view_of pass.old) (view_of pass.new)) }
     ensures refused { IfErr result (RefusesCommit (lanes_of lock.now) (view_of pass.old) (view_of pass.new)) }
 {
     match pass.try_write(lock) {

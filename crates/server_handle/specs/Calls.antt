@@ -1,4 +1,5 @@
--- What the calls of callers and of devices' ports do: what those of the server do, by this pass or port.
+-- What the calls of callers and of devices' ports do: what those of the server do, by this pass or port. None waits: one
+-- that is carried out is so at the first try, and met no lane that was held.
 use Rattle.std.specs.Prelude.{◌≡◌, ℕ, List, Option, None, Result, Vec, IfOk, IfErr}
 use Rattle.std.specs.Arc.{arc_value}
 use Rattle.std.specs.declared.alloc.Global.{Global}
@@ -14,7 +15,7 @@ use Rattle.iofd_words.specs.declared.query.Translation.{Translation}
 use Rattle.iofd_words.specs.declared.refusal.NoMemory.{NoMemory}
 use Rattle.iommufd_core.specs.declared.apply.Stamp.{Stamp}
 use Rattle.journal_audit_writing.specs.declared.whole.JournalError.{JournalError}
-use Rattle.lane_lock.specs.Outcomes.{OnlySees, RefusesRead}
+use Rattle.lane_lock.specs.Outcomes.{MetNone, OnlySees, RefusesRead}
 use Rattle.lane_lock.specs.Passes.{lane_of, lanes_of, view_of}
 use Rattle.lane_lock.specs.declared.refusal.NotNow.{NotNow}
 use Rattle.guarded_core.specs.Guarded.{RefusesCommit}
@@ -40,6 +41,7 @@ pub record Calls (event : Event Global) (c : Caller) (told : Result Stamp (TryEr
   where
     pub same : SameCaller c d
     pub made : IfOk told (λ stamp. Makes (settings_of (arc_value c.server)) c.pass (act_of event) stamp d.pass)
+    pub met : IfOk told (λ _. MetNone (view_of c.pass) (view_of d.pass))
     pub refused : IfErr told (RefusesCommit (lanes_of (arc_value c.server).lock) (view_of c.pass) (view_of d.pass))
 
 -- the question is answered after all records that the pass has then seen; or its lane couldn't be had
@@ -47,6 +49,7 @@ pub record Looks (query : Query) (c : Caller) (told : Result Answer NotNow) (d :
   pub same : SameCaller c d
   pub sees : OnlySees (view_of c.pass) (view_of d.pass)
   pub answer : IfOk told (λ answer. IsAnswered (settings_of (arc_value c.server)) d.pass query answer)
+  pub met : IfOk told (λ _. MetNone (view_of c.pass) (view_of d.pass))
   pub refused : IfErr told (RefusesRead (view_of c.pass) (view_of d.pass) (lane_of c.pass))
 
 -- the access object's notices, or why there are none, are told after all records that the pass has then seen; or its
@@ -68,6 +71,7 @@ pub record Serves (file : FileNo) (number : ℕ) (bytes : List ℕ) (c : Caller)
     (told : Result (IoctlAnswer Global) (TryError NoMemory)) (d : Caller) : Type 0 where
   pub same : SameCaller c d
   pub served : IfOk told (λ answer. IsDecoded (settings_of (arc_value c.server)) c.pass file number bytes answer d.pass)
+  pub met : IfOk told (λ _. MetNone (view_of c.pass) (view_of d.pass))
   pub refused : IfErr told (RefusesIoctl number bytes (lanes_of (arc_value c.server).lock) (lane_of c.pass)
       (view_of c.pass) (view_of d.pass))
 
@@ -76,6 +80,7 @@ pub record TakesTurn (turn : Turn) (p : Device) (told : Result Stamp (TryError N
   pub same : SameDevice p q
   pub made : IfOk told (λ stamp. Makes (settings_of (arc_value p.server)) p.port.pass
       (act_of (turn_event p.port.device turn)) stamp q.port.pass)
+  pub met : IfOk told (λ _. MetNone (view_of p.port.pass) (view_of q.port.pass))
   pub refused : IfErr told (RefusesCommit (lanes_of (arc_value p.server).lock) (view_of p.port.pass)
       (view_of q.port.pass))
   pub empty : KeepsNothing q.port
@@ -86,6 +91,7 @@ pub record ReadsBytes (address : ℕ) (old new : List ℕ) (p : Device) (access 
   pub sees : OnlySees (view_of p.port.pass) (view_of q.port.pass)
   pub reads : Reads (settings_of (arc_value p.server)) p.port.device (most_of p.port) address old (standing_of p.port)
       access.ended (standing_of q.port) new
+  pub met : IfOk access.ended (λ _. MetNone (view_of p.port.pass) (view_of q.port.pass))
   pub last : access.last ≡ None
 
 -- the device writes these bytes, from the address on, as far as it comes
@@ -93,12 +99,14 @@ pub record WritesBytes (address : ℕ) (bytes : List ℕ) (p : Device) (access :
   pub same : SameDevice p q
   pub writes : Writes (settings_of (arc_value p.server)) (lanes_of (arc_value p.server).lock) p.port.device
       (most_of p.port) address bytes (standing_of p.port) access.ended (standing_of q.port) access.last
+  pub met : IfOk access.ended (λ _. MetNone (view_of p.port.pass) (view_of q.port.pass))
 
 -- the device's page at the address is translated so, where it has the right, after all records that the port's pass has
--- then seen; or its lane couldn't be had
+-- then seen, and made no record; or its lane couldn't be had
 pub record TranslatesPage (address : ℕ) (kind : AccessKind) (p : Device) (told : Result (Option Translation) NotNow)
     (q : Device) : Type 0 where
   pub same : SameDevice p q
   pub sees : OnlySees (view_of p.port.pass) (view_of q.port.pass)
   pub translated : Translates (settings_of (arc_value p.server)) p.port.device (most_of p.port) address kind
       (standing_of p.port) told (standing_of q.port)
+  pub last : q.port.last ≡ None

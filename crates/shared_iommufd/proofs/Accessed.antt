@@ -40,6 +40,7 @@ use Rattle.iofd_words.specs.declared.record.Record.{Record}
 use Rattle.iommufd_core.specs.History.{History, may_apply, world}
 use Rattle.lane_lock.specs.History.{Legal, StartsWith}
 use Rattle.lane_lock.specs.Outcomes.{OnlySees}
+use Rattle.lane_lock.specs.Views.{IsBlank}
 use Rattle.lane_lock.specs.Passes.{number_of, view_of}
 use Rattle.port_cache.specs.Cached.{Leaves, Translations, compared}
 use Rattle.port_cache.specs.declared.cache.Found.{Found}
@@ -74,12 +75,13 @@ module _ {A : Type 0} {g : CoreGhosts A} where
       (finds : Found) (said : Answer) (q : CorePass A g) → o.settings ≡ settings → o.records ≡ []
       → StartsWith (told h) (told o) → (view_of q).seen ≡ told h
       → Legal maker_of (length (told o)) (told h) (number_of q) (view_of q).seen (view_of q).made
+      → IsBlank (view_of q)
       → ReadUnder h device p.turns p.kept iova len finds said → TellsRead settings device iova.0 len p finds said q
-  tells_read settings o h device iova len p finds said q opened fresh starts seen legal under =
+  tells_read settings o h device iova len p finds said q opened fresh starts seen legal home under =
       let e : h.settings ≡ settings = same_settings h o starts ∙ opened in
       record {
         records = h.records;
-        seen = has_seen settings o h q opened fresh starts under.run seen legal;
+        seen = has_seen settings o h q opened fresh starts under.run seen legal home;
         turns = under.turned;
         found = subst (λ (s : Settings). finds.translation ≡ found s h.records device p.turns p.kept iova.0 Read) e
             under.found_so;
@@ -92,12 +94,13 @@ module _ {A : Type 0} {g : CoreGhosts A} where
       (p : Standing A g) (finds : Found) (q : CorePass A g) → o.settings ≡ settings → o.records ≡ []
       → StartsWith (told h) (told o) → (view_of q).seen ≡ told h
       → Legal maker_of (length (told o)) (told h) (number_of q) (view_of q).seen (view_of q).made
+      → IsBlank (view_of q)
       → TranslatedUnder h device p.turns p.kept iova kind finds → TellsTranslation settings device iova.0 kind p finds q
-  tells_translation settings o h device iova kind p finds q opened fresh starts seen legal under =
+  tells_translation settings o h device iova kind p finds q opened fresh starts seen legal home under =
       let e : h.settings ≡ settings = same_settings h o starts ∙ opened in
       record {
         records = h.records;
-        seen = has_seen settings o h q opened fresh starts under.run seen legal;
+        seen = has_seen settings o h q opened fresh starts under.run seen legal home;
         turns = under.turned;
         found = subst (λ (s : Settings). finds.translation ≡ found s h.records device p.turns p.kept iova.0 kind) e
             under.found_so;

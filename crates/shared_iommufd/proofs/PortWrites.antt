@@ -66,6 +66,7 @@ module _ {A : Type 0} {g : CoreGhosts A} where
         (history_of settings (m.before ++ m.made ∷ []))) same.number m.applied;
     seen = m.seen;
     own = m.own ∙ ap (λ l. l ++ entry.Made m.made ∷ []) sees.made;
+    home = m.home;
   }
 
   -- what is written by a port that keeps the same is written so

@@ -21,6 +21,7 @@ use Rattle.journal_audit_writing.specs.declared.whole.JournalError.{JournalError
 use Rattle.lane_lock.specs.History.{Legal, StartsWith, made_by}
 use Rattle.lane_lock.specs.Outcomes.{OnlySees}
 use Rattle.lane_lock.specs.Passes.{SamePass, number_of, view_of}
+use Rattle.lane_lock.specs.Views.{IsBlank}
 use Rattle.server_state.specs.Choice.{IsLooked}
 use Rattle.guarded_core.specs.Applied.{IsApplied}
 use Rattle.guarded_core.specs.Entries.{history_of, maker_of, told}
@@ -50,8 +51,9 @@ module _ {A : Type 0} {g : CoreGhosts A} where
   pub has_seen : (settings : Settings) (o h : History A) (p : CorePass A g) → o.settings ≡ settings → o.records ≡ []
       → StartsWith (told h) (told o) → IsRun h.settings h.records → (view_of p).seen ≡ told h
       → Legal maker_of (length (told o)) (told h) (number_of p) (view_of p).seen (view_of p).made
+      → IsBlank (view_of p)
       → HasSeen settings p h.records
-  has_seen settings o h p opened fresh starts run seen legal =
+  has_seen settings o h p opened fresh starts run seen legal home =
       let e : h.settings ≡ settings = same_settings h o starts ∙ opened in
       let is : h ≡ history_of settings h.records = is_history h settings e in
       let base : length (told o) ≡ 1 = one_entry o fresh in
@@ -61,6 +63,7 @@ module _ {A : Type 0} {g : CoreGhosts A} where
         legal = subst
             (λ (c : ℕ × History A). Legal maker_of c.0 (told c.1) (number_of p) (view_of p).seen (view_of p).made)
             (λ i. (base i, is i)) legal;
+        home = home;
       }
 
   -- and the core h has answered a question so
@@ -68,12 +71,13 @@ module _ {A : Type 0} {g : CoreGhosts A} where
       → o.settings ≡ settings → o.records ≡ [] → StartsWith (told h) (told o) → IsRun h.settings h.records
       → (view_of p).seen ≡ told h
       → Legal maker_of (length (told o)) (told h) (number_of p) (view_of p).seen (view_of p).made
+      → IsBlank (view_of p)
       → IsLooked (answers_to h.settings h.records query) answer → IsAnswered settings p query answer
-  answered settings o h p query answer opened fresh starts run seen legal looked =
+  answered settings o h p query answer opened fresh starts run seen legal home looked =
       let e : h.settings ≡ settings = same_settings h o starts ∙ opened in
       record {
         records = h.records;
-        seen = has_seen settings o h p opened fresh starts run seen legal;
+        seen = has_seen settings o h p opened fresh starts run seen legal home;
         looked = subst (λ (s : Settings). IsLooked (answers_to s h.records query) answer) e looked;
       }
 
@@ -82,12 +86,13 @@ module _ {A : Type 0} {g : CoreGhosts A} where
       (answer : Result (Vec Bounds A) CallError) → o.settings ≡ settings → o.records ≡ []
       → StartsWith (told h) (told o) → IsRun h.settings h.records → (view_of p).seen ≡ told h
       → Legal maker_of (length (told o)) (told h) (number_of p) (view_of p).seen (view_of p).made
+      → IsBlank (view_of p)
       → TellsNotices h file access answer → AreNotices settings p file access answer
-  notified settings o h p file access answer opened fresh starts run seen legal tells =
+  notified settings o h p file access answer opened fresh starts run seen legal home tells =
       let e : h.settings ≡ settings = same_settings h o starts ∙ opened in
       record {
         records = h.records;
-        seen = has_seen settings o h p opened fresh starts run seen legal;
+        seen = has_seen settings o h p opened fresh starts run seen legal home;
         tells = subst (λ (x : History A). TellsNotices x file access answer) (is_history h settings e) tells;
       }
 
@@ -96,12 +101,13 @@ module _ {A : Type 0} {g : CoreGhosts A} where
       → o.settings ≡ settings → o.records ≡ [] → StartsWith (told h) (told o) → IsRun h.settings h.records
       → (view_of p).seen ≡ told h
       → Legal maker_of (length (told o)) (told h) (number_of p) (view_of p).seen (view_of p).made
+      → IsBlank (view_of p)
       → TellsJournal h answer → IsJournalOf settings p answer
-  journalled settings o h p answer opened fresh starts run seen legal tells =
+  journalled settings o h p answer opened fresh starts run seen legal home tells =
       let e : h.settings ≡ settings = same_settings h o starts ∙ opened in
       record {
         records = h.records;
-        seen = has_seen settings o h p opened fresh starts run seen legal;
+        seen = has_seen settings o h p opened fresh starts run seen legal home;
         tells = subst (λ (x : History A). TellsJournal x answer) (is_history h settings e) tells;
       }
 
@@ -111,14 +117,15 @@ module _ {A : Type 0} {g : CoreGhosts A} where
       → o.settings ≡ settings → o.records ≡ [] → StartsWith (told h) (told o) → IsRun h.settings h.records
       → (view_of q).seen ≡ told h
       → Legal maker_of (length (told o)) (told h) (number_of q) (view_of q).seen (view_of q).made
+      → IsBlank (view_of q)
       → OnlySees (view_of p) (view_of q) → TellsRanges Z h file request.ioas ranges
       → AnswersSet Z request ranges answer → IsTold settings p file request answer q
-  ranges_told settings o h p q file request ranges answer opened fresh starts run seen legal sees tells answers =
+  ranges_told settings o h p q file request ranges answer opened fresh starts run seen legal home sees tells answers =
       let e : h.settings ≡ settings = same_settings h o starts ∙ opened in
       record {
         sees = sees;
         records = h.records;
-        seen = has_seen settings o h q opened fresh starts run seen legal;
+        seen = has_seen settings o h q opened fresh starts run seen legal home;
         answers = subst (λ (x : History A). AnswersRanges x file request answer) (is_history h settings e)
             (answers_ranges h file request ranges answer tells answers);
       }
@@ -131,8 +138,9 @@ module _ {A : Type 0} {g : CoreGhosts A} where
       → made_by maker_of (number_of q) (drop (length (told o)) (told old)) ≡ (view_of q).made
       → IsApplied (record { 0 = number_of q }) act stamp old new → (view_of r).seen ≡ told new
       → (view_of r).seen ≡ told old ++ x ∷ [] → (view_of r).made ≡ (view_of q).made ++ x ∷ []
+      → IsBlank (view_of r)
       → (m : Makes settings p act stamp r) × (m.before ≡ old.records)
-  makes_from settings o old new p q r act stamp x opened fresh starts same sees later mine applied seen grown own =
+  makes_from settings o old new p q r act stamp x opened fresh starts same sees later mine applied seen grown own home =
       let e : old.settings ≡ settings = same_settings old o starts ∙ opened in
       let was : old ≡ history_of settings old.records = is_history old settings e in
       let made = applied.one_more.made in
@@ -153,6 +161,7 @@ module _ {A : Type 0} {g : CoreGhosts A} where
               (λ i. (same.number i, was i, is i)) applied;
           seen = seen ∙ ap (told {A = A}) is;
           own = own ∙ (λ i. sees.made i ++ last i);
+          home = home;
         },
         refl,
       )
@@ -163,9 +172,11 @@ module _ {A : Type 0} {g : CoreGhosts A} where
       → made_by maker_of (number_of q) (drop (length (told o)) (told old)) ≡ (view_of q).made
       → IsApplied (record { 0 = number_of q }) act stamp old new → (view_of r).seen ≡ told new
       → (view_of r).seen ≡ told old ++ x ∷ [] → (view_of r).made ≡ (view_of q).made ++ x ∷ []
+      → IsBlank (view_of r)
       → Makes settings p act stamp r
-  makes settings o old new p q r act stamp x opened fresh starts same sees later mine applied seen grown own =
-      (makes_from settings o old new p q r act stamp x opened fresh starts same sees later mine applied seen grown own).0
+  makes settings o old new p q r act stamp x opened fresh starts same sees later mine applied seen grown own home =
+      (makes_from settings o old new p q r act stamp x opened fresh starts same sees later mine applied seen grown own
+      home).0
 
   -- a pass is itself, and has seen what it has seen
   pub same_pass : (p : CorePass A g) → SamePass p p

@@ -7,6 +7,7 @@ use Rattle.iofd_words.specs.declared.record.Record.{Record}
 use Rattle.iommufd_core.specs.declared.apply.Stamp.{Stamp}
 use Rattle.lane_lock.specs.History.{StartsWith, made_by}
 use Rattle.lane_lock.specs.Passes.{number_of, view_of}
+use Rattle.lane_lock.specs.Views.{IsBlank}
 use Rattle.guarded_core.specs.Applied.{IsApplied}
 use Rattle.guarded_core.specs.Entries.{history_of, maker_of, told}
 use Rattle.guarded_core.specs.Passes.{CoreGhosts, CorePass}
@@ -24,7 +25,8 @@ place_of (Err error) = None
 module _ {A : Type 0} {g : CoreGhosts A} where
   -- The pass made one record: of this act, with its own number, and with the reply and at the place of the stamp. It
   -- stands behind all records that there were, which are all that the pass had seen and maybe more, and of which those
-  -- of the pass are just those that it had made. It is the last record that the pass has seen now.
+  -- of the pass are just those that it had made. It is the last record that the pass has seen now, and the pass holds no
+  -- lane.
   pub record Makes (settings : Settings) (p : CorePass A g) (act : Act A) (stamp : Stamp) (q : CorePass A g)
       : Type 0 where
     pub before : List (Record A)
@@ -35,3 +37,4 @@ module _ {A : Type 0} {g : CoreGhosts A} where
         (history_of settings (before ++ made ∷ []))
     pub seen : (view_of q).seen ≡ told (history_of settings (before ++ made ∷ []))
     pub own : (view_of q).made ≡ (view_of p).made ++ entry.Made made ∷ []
+    pub home : IsBlank (view_of q)

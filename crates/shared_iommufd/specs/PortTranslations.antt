@@ -8,7 +8,7 @@ use Rattle.iofd_words.specs.declared.fault.AccessKind.{AccessKind}
 use Rattle.iofd_words.specs.declared.numbers.DeviceNo.{DeviceNo}
 use Rattle.iofd_words.specs.declared.query.Translation.{Translation}
 use Rattle.iofd_words.specs.declared.record.Record.{Record}
-use Rattle.lane_lock.specs.Outcomes.{OnlySees, RefusesRead}
+use Rattle.lane_lock.specs.Outcomes.{MetNone, OnlySees, RefusesRead}
 use Rattle.lane_lock.specs.Passes.{lane_of, view_of}
 use Rattle.lane_lock.specs.declared.refusal.NotNow.{NotNow}
 use Rattle.port_cache.specs.Cached.{Leaves, compared}
@@ -42,10 +42,10 @@ module _ {A : Type 0} {g : CoreGhosts A} where
     pub turns : q.turns ≡ finds.turns
     pub leaves : Leaves most (page_of address) finds.translation (compared p.turns finds.turns p.kept) q.kept
 
-  -- or its lane couldn't be had, and nothing was seen
+  -- it is, at the first try: no lane was met held; or its lane couldn't be had, and nothing was seen
   abbrev pub Translates : Settings → DeviceNo → ℕ → ℕ → AccessKind → Standing A g → Result (Option Translation) NotNow
       → Standing A g → Type 0
   Translates settings device most address kind p (Ok told) q =
-      IsTranslatedSo settings device most address kind p told q
+      IsTranslatedSo settings device most address kind p told q × MetNone (view_of p.pass) (view_of q.pass)
   Translates settings device most address kind p (Err refused) q =
       RefusesRead (view_of p.pass) (view_of q.pass) (lane_of p.pass) refused × KeepsSame p q

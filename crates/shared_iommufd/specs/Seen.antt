@@ -14,6 +14,7 @@ use Rattle.journal_audit_writing.specs.declared.whole.JournalError.{JournalError
 use Rattle.lane_lock.specs.History.{Legal}
 use Rattle.lane_lock.specs.Outcomes.{MetNone, RefusesRead}
 use Rattle.lane_lock.specs.Passes.{lane_of, number_of, view_of}
+use Rattle.lane_lock.specs.Views.{IsBlank}
 use Rattle.server_state.specs.Choice.{IsLooked}
 use Rattle.guarded_core.specs.Entries.{history_of, maker_of, told}
 use Rattle.guarded_core.specs.Passes.{CoreGhosts, CorePass}
@@ -23,11 +24,12 @@ use Rattle.guarded_core.specs.declared.try_error.TryError.TheVariants as tried
 
 module _ {A : Type 0} {g : CoreGhosts A} where
   -- the pass has seen just these records of a server that was opened with the settings; they are a run, and legal for
-  -- the pass: its own among them are those that it made
+  -- the pass: its own among them are those that it made; and it holds no lane
   pub record HasSeen (settings : Settings) (p : CorePass A g) (records : List (Record A)) : Type 0 where
     pub seen : (view_of p).seen ≡ told (history_of settings records)
     pub run : IsRun settings records
     pub legal : Legal maker_of 1 (told (history_of settings records)) (number_of p) (view_of p).seen (view_of p).made
+    pub home : IsBlank (view_of p)
 
   -- the question has this answer after all records that the pass has seen
   pub record IsAnswered (settings : Settings) (p : CorePass A g) (query : Query) (answer : Answer) : Type 0 where
@@ -42,11 +44,12 @@ module _ {A : Type 0} {g : CoreGhosts A} where
     pub seen : HasSeen settings p records
     pub tells : TellsNotices (history_of settings records) file access answer
 
-  -- the same of a question that doesn't wait; where the lane of the pass was held or empty, the pass has seen no more, and
-  -- that isn't told as a failure
+  -- the same of a question that doesn't wait, which is asked once: no lane was met held; or the lane of the pass was held
+  -- or empty, the pass has seen no more, and that isn't told as a failure
   abbrev pub AreTriedNotices : Settings → CorePass A g → CorePass A g → FileNo → ObjId
       → Result (Vec Bounds A) (TryError CallError) → Type 0
-  AreTriedNotices settings p q file access (Ok spans) = AreNotices settings q file access (Ok spans)
+  AreTriedNotices settings p q file access (Ok spans) =
+      AreNotices settings q file access (Ok spans) × MetNone (view_of p) (view_of q)
   AreTriedNotices settings p q file access (Err (tried.Call failed)) =
       AreNotices settings q file access (Err failed) × MetNone (view_of p) (view_of q)
   AreTriedNotices settings p q file access (Err (tried.NotNow refused)) =
@@ -62,7 +65,7 @@ module _ {A : Type 0} {g : CoreGhosts A} where
   -- the same of a question that doesn't wait
   abbrev pub IsTriedJournalOf : Settings → CorePass A g → CorePass A g → Result (Vec ℕ A) (TryError JournalError)
       → Type 0
-  IsTriedJournalOf settings p q (Ok bytes) = IsJournalOf settings q (Ok bytes)
+  IsTriedJournalOf settings p q (Ok bytes) = IsJournalOf settings q (Ok bytes) × MetNone (view_of p) (view_of q)
   IsTriedJournalOf settings p q (Err (tried.Call failed)) =
       IsJournalOf settings q (Err failed) × MetNone (view_of p) (view_of q)
   IsTriedJournalOf settings p q (Err (tried.NotNow refused)) = RefusesRead (view_of p) (view_of q) (lane_of p) refused

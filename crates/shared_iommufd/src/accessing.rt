@@ -17,7 +17,7 @@ use std::alloc::Allocator;
 
 impl<A: Allocator + Copy> Server<A> {
     ghost use Rattle.std.specs.Prelude.{IfErr, IfOk};
-    ghost use Rattle.lane_lock.specs.Outcomes.{OnlySees, RefusesRead};
+    ghost use Rattle.lane_lock.specs.Outcomes.{MetNone, OnlySees, RefusesRead};
     ghost use Rattle.lane_lock.specs.Passes.{SamePass, lane_of, lanes_of, view_of};
     ghost use Rattle.guarded_core.specs.Caches.{MayKeep};
     ghost use Rattle.guarded_core.specs.Entries.{told};
@@ -43,6 +43,7 @@ impl<A: Allocator + Copy> Server<A> {
         ensures sees { OnlySees (view_of pass.old) (view_of pass.new) }
         ensures tells { IfOk result (λ r. TellsRead (settings_of self.now) device iova.0 len (stands_so pass.old cache.now)
             r.0 r.1 pass.new) }
+        ensures met { IfOk result (λ _. MetNone (view_of pass.old) (view_of pass.new)) }
         ensures refused { IfErr result (RefusesRead (view_of pass.old) (view_of pass.new) (lane_of pass.old)) }
     {
         let read = PortRead {
@@ -71,6 +72,7 @@ impl<A: Allocator + Copy> Server<A> {
         ensures sees { OnlySees (view_of pass.old) (view_of pass.new) }
         ensures tells { IfOk result (λ found. TellsTranslation (settings_of self.now) device iova.0 kind
             (stands_so pass.old cache.now) found pass.new) }
+        ensures met { IfOk result (λ _. MetNone (view_of pass.old) (view_of pass.new)) }
         ensures refused { IfErr result (RefusesRead (view_of pass.old) (view_of pass.new) (lane_of pass.old)) }
     {
         let walk = PortWalk {
@@ -99,6 +101,7 @@ impl<A: Allocator + Copy> Server<A> {
         ensures owned { IsPassOf self.now pass.new }
         ensures tells { IfOk result (λ r. TellsWrite (settings_of self.now) device iova.0 bytes
             (stands_so pass.old cache.now) r.0 r.1 pass.new) }
+        ensures met { IfOk result (λ _. MetNone (view_of pass.old) (view_of pass.new)) }
         ensures refused { IfErr result (RefusesCommit (lanes_of self.now.lock) (view_of pass.old) (view_of pass.new)) }
     {
         try_commit_later(

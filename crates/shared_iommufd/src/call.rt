@@ -10,8 +10,9 @@ use std::sync::Wait;
 
 impl<A: Allocator + Copy> Server<A> {
     ghost use Rattle.std.specs.Prelude.{◌≡◌, false, IfErr, IfOk, OnErr, None};
-    ghost use Rattle.lane_lock.specs.Outcomes.{OnlySees};
+    ghost use Rattle.lane_lock.specs.Outcomes.{MetNone, OnlySees};
     ghost use Rattle.lane_lock.specs.Passes.{SamePass, lanes_of, view_of};
+    ghost use Rattle.lane_lock.specs.Views.{IsBlank};
     ghost use Rattle.guarded_core.specs.Guarded.{RefusesCommit};
     ghost use Rattle.shared_iommufd.specs.Made.{Makes};
     ghost use Rattle.guarded_core.specs.OfPort.{event_of_port};
@@ -30,6 +31,7 @@ impl<A: Allocator + Copy> Server<A> {
         ensures owned { IsPassOf self.now pass.new }
         ensures made { IfOk result (λ stamp. Makes (settings_of self.now) pass.old act.now stamp pass.new) }
         ensures none { OnErr result (OnlySees (view_of pass.old) (view_of pass.new)) }
+        ensures home { IsBlank (view_of pass.new) }
     {
         for _ in rt.forever() {
             match commit(rt, &self.lock, pass, act) {
@@ -53,6 +55,7 @@ impl<A: Allocator + Copy> Server<A> {
         ensures same_pass { SamePass pass.old pass.new }
         ensures owned { IsPassOf self.now pass.new }
         ensures made { IfOk result (λ stamp. Makes (settings_of self.now) pass.old act.now stamp pass.new) }
+        ensures met { IfOk result (λ _. MetNone (view_of pass.old) (view_of pass.new)) }
         ensures refused { IfErr result (RefusesCommit (lanes_of self.now.lock) (view_of pass.old) (view_of pass.new)) }
     {
         try_commit(&self.lock, pass, act)
@@ -60,7 +63,7 @@ impl<A: Allocator + Copy> Server<A> {
 
     /// Applies an event once all lanes can be had: exactly one record is made, of this event and with the number of
     /// this pass, behind all that the pass has then seen, and the stamp has its place among the records and its reply.
-    /// NoMemory makes none.
+    /// NoMemory makes none. The pass holds no lane then.
     ///
     /// An event that only a port makes isn't allowed (`is_event_of_port`), nor a cached frame.
     pub fn call<R: Wait>(&self, rt: &R, pass: &mut Pass<A>, act: &Act<A>) -> Result<Stamp, NoMemory>
@@ -71,6 +74,7 @@ impl<A: Allocator + Copy> Server<A> {
         ensures owned { IsPassOf self.now pass.new }
         ensures made { IfOk result (λ stamp. Makes (settings_of self.now) pass.old act.now stamp pass.new) }
         ensures none { OnErr result (OnlySees (view_of pass.old) (view_of pass.new)) }
+        ensures home { IsBlank (view_of pass.new) }
     {
         self.make(rt, pass, act)
     }
@@ -84,6 +88,7 @@ impl<A: Allocator + Copy> Server<A> {
         ensures same_pass { SamePass pass.old pass.new }
         ensures owned { IsPassOf self.now pass.new }
         ensures made { IfOk result (λ stamp. Makes (settings_of self.now) pass.old act.now stamp pass.new) }
+        ensures met { IfOk result (λ _. MetNone (view_of pass.old) (view_of pass.new)) }
         ensures refused { IfErr result (RefusesCommit (lanes_of self.now.lock) (view_of pass.old) (view_of pass.new)) }
     {
         self.try_make(pass, act)

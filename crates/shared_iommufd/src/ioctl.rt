@@ -150,9 +150,8 @@ impl<A: Allocator + Copy> Server<A> {
     ghost use Rattle.std.specs.Prelude.{None, OnErr, IfErr};
     ghost use Rattle.ioctl_codec.specs.Events.{asked};
     ghost use Rattle.ioctl_codec.specs.Refusals.{refusal};
-    ghost use Rattle.lane_lock.specs.Outcomes.{OnlySees};
+    ghost use Rattle.lane_lock.specs.Outcomes.{MetNone, OnlySees};
     ghost use Rattle.lane_lock.specs.Passes.{SamePass, lane_of, lanes_of, view_of};
-    ghost use Rattle.guarded_core.specs.Guarded.{RefusesCommit};
     ghost use Rattle.shared_iommufd.specs.Ioctls.{IsDecoded, IsMade, IsReported, IsServed, IsTold};
     ghost use Rattle.shared_iommufd.specs.Ioctls.{RefusesCommand, RefusesIoctl, RefusesLook};
     ghost use Rattle.shared_iommufd.specs.Servers.{IsPassOf, settings_of};
@@ -201,6 +200,7 @@ impl<A: Allocator + Copy> Server<A> {
         ensures owned { IsPassOf self.now pass.new }
         ensures served { IfOk result (λ answer.
             IsDecoded (settings_of self.now) pass.old file number bytes.now answer pass.new) }
+        ensures met { IfOk result (λ _. MetNone (view_of pass.old) (view_of pass.new)) }
         ensures refused { IfErr result (RefusesIoctl number bytes.now (lanes_of self.now.lock) (lane_of pass.old)
             (view_of pass.old) (view_of pass.new)) }
     {
@@ -245,6 +245,7 @@ impl<A: Allocator + Copy> Server<A> {
         ensures owned { IsPassOf self.now pass.new }
         ensures served { IfOk result (λ answer.
             IsServed (settings_of self.now) pass.old file (asked file command) answer pass.new) }
+        ensures met { IfOk result (λ _. MetNone (view_of pass.old) (view_of pass.new)) }
         ensures refused { IfErr result (RefusesCommand (lanes_of self.now.lock) (lane_of pass.old) (view_of pass.old)
             (view_of pass.new)) }
     {
@@ -284,7 +285,9 @@ impl<A: Allocator + Copy> Server<A> {
         ensures same_pass { SamePass pass.old pass.new }
         ensures owned { IsPassOf self.now pass.new }
         ensures made { IfOk result (λ answer. IsMade (settings_of self.now) pass.old event answer pass.new) }
-        ensures refused { IfErr result (RefusesCommit (lanes_of self.now.lock) (view_of pass.old) (view_of pass.new)) }
+        ensures met { IfOk result (λ _. MetNone (view_of pass.old) (view_of pass.new)) }
+        ensures refused { IfErr result (RefusesCommand (lanes_of self.now.lock) (lane_of pass.old) (view_of pass.old)
+            (view_of pass.new)) }
     {
         let Ok(room) = room_for_reply(self.alloc) else {
             return Err(TryError::Call(NoMemory));
@@ -326,6 +329,7 @@ impl<A: Allocator + Copy> Server<A> {
         ensures same_pass { SamePass pass.old pass.new }
         ensures owned { IsPassOf self.now pass.new }
         ensures told { IfOk result (λ answer. IsReported (settings_of self.now) pass.old file request answer pass.new) }
+        ensures met { IfOk result (λ _. MetNone (view_of pass.old) (view_of pass.new)) }
         ensures refused { IfErr result (RefusesLook (lane_of pass.old) (view_of pass.old) (view_of pass.new)) }
     {
         let Ok(room) = room_for_reply(self.alloc) else {
@@ -370,6 +374,7 @@ impl<A: Allocator + Copy> Server<A> {
         ensures same_pass { SamePass pass.old pass.new }
         ensures owned { IsPassOf self.now pass.new }
         ensures told { IfOk result (λ answer. IsTold (settings_of self.now) pass.old file request answer pass.new) }
+        ensures met { IfOk result (λ _. MetNone (view_of pass.old) (view_of pass.new)) }
         ensures refused { IfErr result (RefusesLook (lane_of pass.old) (view_of pass.old) (view_of pass.new)) }
     {
         let ioas = ObjectOf {

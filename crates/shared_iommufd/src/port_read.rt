@@ -37,7 +37,7 @@ fn put(piece: &mut [u8], answer: &Answer) -> Result<(), PortCause>
 impl<A: Allocator + Copy> Port<A> {
     ghost use Rattle.std.specs.Prelude.{◌+◌, ◌<◌, ◌≤◌, ◌^◌, false, IfOk};
     ghost use Rattle.iofd_words.specs.Pages.{crosses};
-    ghost use Rattle.lane_lock.specs.Outcomes.{OnlySees};
+    ghost use Rattle.lane_lock.specs.Outcomes.{MetNone, OnlySees};
     ghost use Rattle.lane_lock.specs.Passes.{view_of};
     ghost use Rattle.shared_iommufd.specs.Ports.{IsPortOf, SamePort, most_of, standing_of};
     ghost use Rattle.shared_iommufd.specs.PortReads.{DeniesRead, IsReadSo, Reads, ReadsOn, as_tried};
@@ -102,6 +102,7 @@ impl<A: Allocator + Copy> Port<A> {
         ensures same_port { SamePort self.old self.new }
         ensures owned { IsPortOf server.now self.new }
         ensures sees { OnlySees (view_of self.old.pass) (view_of self.new.pass) }
+        ensures met { IfOk result (λ _. MetNone (view_of self.old.pass) (view_of self.new.pass)) }
         ensures reads { Reads (settings_of server.now) self.old.device (most_of self.old) iova.0 buffer.old
             (standing_of self.old) result (standing_of self.new) buffer.new }
         ensures last { self.new.last ≡ None }
@@ -125,6 +126,7 @@ impl<A: Allocator + Copy> Port<A> {
         ensures same_port { SamePort self.old self.new }
         ensures owned { IsPortOf server.now self.new }
         ensures sees { OnlySees (view_of self.old.pass) (view_of self.new.pass) }
+        ensures met { IfOk result (λ _. MetNone (view_of self.old.pass) (view_of self.new.pass)) }
         ensures reads { ReadsOn (settings_of server.now) self.old.device (most_of self.old) iova.0
             (standing_of self.old) done buffer.old result (standing_of self.new) buffer.new }
         ensures last { self.new.last ≡ self.old.last }
@@ -156,6 +158,7 @@ impl<A: Allocator + Copy> Port<A> {
         ensures same_port { SamePort self.old self.new }
         ensures owned { IsPortOf server.now self.new }
         ensures sees { OnlySees (view_of self.old.pass) (view_of self.new.pass) }
+        ensures met { IfOk result (λ _. MetNone (view_of self.old.pass) (view_of self.new.pass)) }
         ensures read { IfOk result (λ _. IsReadSo (settings_of server.now) self.old.device (most_of self.old) address
             (length piece.old) (standing_of self.old) (Answer.Read piece.new) (standing_of self.new)) }
         ensures low { IfOk result (λ _. address < 2 ^ 57) }
@@ -180,6 +183,7 @@ impl<A: Allocator + Copy> Port<A> {
         ensures same_port { SamePort self.old self.new }
         ensures owned { IsPortOf server.now self.new }
         ensures sees { OnlySees (view_of self.old.pass) (view_of self.new.pass) }
+        ensures met { IfOk result (λ _. MetNone (view_of self.old.pass) (view_of self.new.pass)) }
         ensures answered { IfOk result (λ told. IsReadSo (settings_of server.now) self.old.device (most_of self.old)
             iova.0 len (standing_of self.old) told (standing_of self.new)) }
         ensures refused { IfErr result (λ refused. DeniesRead (settings_of server.now) self.old.device

@@ -15,6 +15,7 @@ impl<A: Allocator + Copy> Port<A> {
     ghost use Rattle.std.specs.Prelude.{◌≡◌, ◌+◌, ◌<◌, ◌≤◌, ◌^◌, false, IfErr, IfOk, OnErr, Some, length};
     ghost use Rattle.iofd_words.specs.Pages.{crosses};
     ghost use Rattle.iofd_words.specs.declared.numbers.FrameNo.{FrameNo};
+    ghost use Rattle.lane_lock.specs.Outcomes.{MetNone};
     ghost use Rattle.lane_lock.specs.Passes.{lanes_of, view_of};
     ghost use Rattle.guarded_core.specs.Guarded.{RefusesCommit};
     ghost use Rattle.shared_iommufd.specs.Ports.{IsPortOf, KeepsSame, SamePort, most_of, standing_of};
@@ -77,6 +78,7 @@ impl<A: Allocator + Copy> Port<A> {
         requires { IsPortOf server.now self.old }
         ensures same_port { SamePort self.old self.new }
         ensures owned { IsPortOf server.now self.new }
+        ensures met { IfOk result (λ _. MetNone (view_of self.old.pass) (view_of self.new.pass)) }
         ensures writes { Writes (settings_of server.now) (lanes_of server.now.lock) self.old.device (most_of self.old)
             iova.0 bytes.now (standing_of self.old) result (standing_of self.new) self.new.last }
         ensures idle { length bytes.now ≡ 0 → standing_of self.new ≡ standing_of self.old }
@@ -98,6 +100,7 @@ impl<A: Allocator + Copy> Port<A> {
         requires fits { iova.0 + done < 2 ^ 64 }
         ensures same_port { SamePort self.old self.new }
         ensures owned { IsPortOf server.now self.new }
+        ensures met { IfOk result (λ _. MetNone (view_of self.old.pass) (view_of self.new.pass)) }
         ensures writes { WritesOn (settings_of server.now) (lanes_of server.now.lock) self.old.device
             (most_of self.old) iova.0 bytes.now (standing_of self.old) done self.old.last result
             (standing_of self.new) self.new.last }
@@ -129,6 +132,7 @@ impl<A: Allocator + Copy> Port<A> {
         requires inside { crosses address (length bytes.now) ≡ false }
         ensures same_port { SamePort self.old self.new }
         ensures owned { IsPortOf server.now self.new }
+        ensures met { IfOk result (λ _. MetNone (view_of self.old.pass) (view_of self.new.pass)) }
         ensures written { IfOk result (λ _. (frame : FrameNo) × IsWrittenSo (settings_of server.now) self.old.device
             (most_of self.old) address bytes.now (standing_of self.old) (Reply.Passed frame) self.new.last
             (standing_of self.new)) }
@@ -166,6 +170,7 @@ impl<A: Allocator + Copy> Port<A> {
         requires inside { crosses iova.0 (length bytes) ≡ false }
         ensures same_port { SamePort self.old self.new }
         ensures owned { IsPortOf server.now self.new }
+        ensures met { IfOk result (λ _. MetNone (view_of self.old.pass) (view_of self.new.pass)) }
         ensures written { IfOk result (λ stamp. IsWrittenSo (settings_of server.now) self.old.device (most_of self.old)
             iova.0 bytes (standing_of self.old) stamp.reply (Some stamp.at) (standing_of self.new)) }
         ensures refused { IfErr result (RefusesCommit (lanes_of server.now.lock) (view_of self.old.pass)

@@ -13,8 +13,8 @@ pub returns-in-Ok-commit-clause-committed : goal.returns-in-Ok-commit-clause-com
 returns-in-Ok-commit-clause-committed g c =
     let write = c.in-Ok.ensures in
     let commits = c.in-Ok-commit.ensures.commits in
-    let made = committed_of _ _ _ _ _ _ c.requires.owned write.writing write.same_pass write.sees commits _
-    (search rules) (λ value. FnReturnsAt g.F.Fn c.args.make.now value (c.make-told.result.0, c.make-told.result.1))
+    let made = committed_of _ _ _ _ _ _ c.requires.owned write.writing write.same_pass write.sees commits
+    c.in-Ok-commit.ensures.blank _ (search rules) (λ value. FnReturnsAt g.F.Fn c.args.make.now value (c.make-told.result.0, c.make-told.result.1))
     record {
       shown = c.get.result;
       shows = same_shown c.in-Ok.guard.pass.now c.get.result.now commits.value c.get.ensures.value commits.shown;

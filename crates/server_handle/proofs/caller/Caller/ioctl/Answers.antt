@@ -17,6 +17,7 @@ returns c =
       served = subst (λ (s : Server Global). IfOk c.try_ioctl.result
           (λ answer. IsDecoded (settings_of s) pass a.file a.number a.bytes.now answer after)) c.deref.ensures
           does.served;
+      met = does.met;
       refused = subst (λ (s : Server Global). IfErr c.try_ioctl.result
           (RefusesIoctl a.number a.bytes.now (lanes_of s.lock) (lane_of pass) (view_of pass) (view_of after)))
           c.deref.ensures does.refused;

@@ -16,4 +16,5 @@ returns c =
       sees = does.sees;
       translated = subst (λ (s : Server Global). Translates (settings_of s) p.device (most_of p) a.iova.0 a.kind
           (standing_of p) c.try_translate.result (standing_of c.try_translate.new.self)) c.deref.ensures does.translated;
+      last = does.last;
     }

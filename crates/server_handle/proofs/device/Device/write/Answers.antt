@@ -21,4 +21,5 @@ returns c =
       writes = subst (λ (last : Option ℕ). Writes (settings_of server) (lanes_of server.lock) p.device (most_of p)
           a.iova.0 a.bytes.now (standing_of p) t.result (standing_of t.new.self) last) (sym c.last-last.ensures)
           written;
+      met = t.ensures.met;
     }

@@ -41,6 +41,7 @@ loop-done-preserved g c =
       same = port_then a.self.now loop.self c.read_piece.new.self inv.same e.same_port;
       sees = sees_then (view_of a.self.now.pass) (view_of loop.self.pass) (view_of c.read_piece.new.self.pass) inv.sees
           e.sees;
+      met = e.met ∙ inv.met;
       last = e.last ∙ inv.last;
       from = omega (arith, inv.from);
       within = omega (arith, long, left, before);

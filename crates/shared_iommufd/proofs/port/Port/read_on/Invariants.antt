@@ -1,5 +1,5 @@
 use Rattle.std.proofs.Common.{◌≡◌, ◌+◌, ◌-◌, ◌<◌, ◌≤◌, ◌^◌, length}
-use Rattle.lane_lock.specs.Outcomes.{OnlySees}
+use Rattle.lane_lock.specs.Outcomes.{MetNone, OnlySees}
 use Rattle.lane_lock.specs.Passes.{view_of}
 use Rattle.shared_iommufd.specs.Ports.{IsPortOf, SamePort, most_of, standing_of}
 use Rattle.shared_iommufd.specs.Servers.{settings_of}
@@ -11,6 +11,7 @@ invariant-loop-done g l = record {
   owned : IsPortOf l.server l.self;
   same : SamePort l.initial.self l.self;
   sees : OnlySees (view_of l.initial.self.pass) (view_of l.self.pass);
+  met : MetNone (view_of l.initial.self.pass) (view_of l.self.pass);
   last : l.self.last ≡ l.initial.self.last;
   from : l.initial.done ≤ l.done;
   within : l.done ≤ length l.buffer;

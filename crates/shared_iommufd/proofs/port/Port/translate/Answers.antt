@@ -28,7 +28,7 @@ returns-in-Ok-clause-translated g c =
     translated_sooner (settings_of a.server.now) a.iova.0 a.kind (standing_of a.self.now) (standing_of loop.self)
     inv.keeps (loop.self.device, most_of loop.self) (a.self.now.device, most_of a.self.now) c.in-Ok.translation
     (standing_of c.translate_now.new.self) (λ i. (inv.same.device i, inv.same.most i)) inv.sees
-    c.in-Ok.ensures.translated
+    c.in-Ok.ensures.translated.0
 
 pub loop-preserved : goal.loop-preserved
 loop-preserved g c =

@@ -1,4 +1,4 @@
-use Rattle.std.proofs.Common.{◌+◌, ◌-◌, arith}
+use Rattle.std.proofs.Common.{◌+◌, ◌-◌, arith, ◌∙◌}
 use Rattle.lane_lock.specs.Passes.{lanes_of}
 use Rattle.shared_iommufd.specs.Ports.{most_of, standing_of}
 use Rattle.shared_iommufd.specs.Servers.{settings_of}
@@ -37,6 +37,7 @@ loop-done-preserved g c =
     record {
       owned = e.owned;
       same = port_then a.self.now loop.self c.write_piece.new.self inv.same e.same_port;
+      met = e.met ∙ inv.met;
       from = omega (arith, inv.from);
       within = omega (arith, left, before);
       fits = omega (arith, low, most);

@@ -1,4 +1,6 @@
 use Rattle.std.proofs.Common.{◌≡◌, ◌+◌, ◌-◌, ◌<◌, ◌≤◌, ◌^◌, length}
+use Rattle.lane_lock.specs.Outcomes.{MetNone}
+use Rattle.lane_lock.specs.Passes.{view_of}
 use Rattle.shared_iommufd.specs.Ports.{IsPortOf, SamePort, most_of, standing_of}
 use Rattle.shared_iommufd.specs.Servers.{settings_of}
 use Rattle.shared_iommufd.proofs.PortWrites.{HasGoneOn}
@@ -8,6 +10,7 @@ abbrev pub invariant-loop-done : goal.invariant-loop-done
 invariant-loop-done g l = record {
   owned : IsPortOf l.server l.self;
   same : SamePort l.initial.self l.self;
+  met : MetNone (view_of l.initial.self.pass) (view_of l.self.pass);
   from : l.initial.done ≤ l.done;
   within : l.done ≤ length l.bytes;
   fits : l.iova.0 + l.done < 2 ^ 64;

@@ -14,4 +14,4 @@ returns-clause-journal g c =
     let run : IsRun h.settings h.records = search rules in
     let tells : TellsJournal h c.show.result = search rules in
     journalled (settings_of server) (opened_with server.lock) h c.show.new.pass c.show.result refl server.fresh k.opened
-    run k.seen k.legal tells
+    run k.seen k.legal k.home tells

@@ -15,4 +15,4 @@ returns-clause-answer g c =
     let run : IsRun h.settings h.records = search rules in
     let looked : IsLooked (answers_to h.settings h.records c.args.query.now) c.show.result = search rules in
     answered (settings_of server) (opened_with server.lock) h c.show.new.pass c.args.query.now c.show.result refl
-    server.fresh k.opened run k.seen k.legal looked
+    server.fresh k.opened run k.seen k.legal k.home looked

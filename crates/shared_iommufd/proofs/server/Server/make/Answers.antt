@@ -11,4 +11,4 @@ returns-in-Ok-clause-made g c =
     let loop = c.loop.invariant in
     makes (settings_of server) (opened_with server.lock) k.before.core.history k.after.core.history c.args.pass.now
     c.loop.pass c.commit.new.pass c.args.act.now c.in-Ok.stamp k.entry refl server.fresh k.opened loop.same loop.sees
-    k.later k.mine k.gives k.seen k.grown k.own
+    k.later k.mine k.gives k.seen k.grown k.own k.home

@@ -14,4 +14,4 @@ returns-clause-notices g c =
     let run : IsRun h.settings h.records = search rules in
     let tells : TellsNotices h c.args.file c.args.access c.show.result = search rules in
     notified (settings_of server) (opened_with server.lock) h c.show.new.pass c.args.file c.args.access
-    c.show.result refl server.fresh k.opened run k.seen k.legal tells
+    c.show.result refl server.fresh k.opened run k.seen k.legal k.home tells

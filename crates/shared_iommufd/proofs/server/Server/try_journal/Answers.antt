@@ -14,8 +14,9 @@ returns-in-Ok-Ok-clause-journal g c =
     let k = shown.1 in
     let run : IsRun h.settings h.records = search rules in
     let tells : TellsJournal h c.in-Ok-Ok.field-0 = search rules in
-    journalled (settings_of server) (opened_with server.lock) h c.try_show.new.pass (Ok c.in-Ok-Ok.bytes) refl
-    server.fresh k.opened run k.seen k.legal (subst (TellsJournal h) c.in-Ok-Ok.field-0-is tells)
+    let told = journalled (settings_of server) (opened_with server.lock) h c.try_show.new.pass (Ok c.in-Ok-Ok.bytes)
+    refl server.fresh k.opened run k.seen k.legal k.home (subst (TellsJournal h) c.in-Ok-Ok.field-0-is tells) in
+    (told, c.in-Ok-Ok.ensures.met)
 
 pub returns-in-Ok-Err-clause-journal : goal.returns-in-Ok-Err-clause-journal
 returns-in-Ok-Err-clause-journal g c =
@@ -26,5 +27,5 @@ returns-in-Ok-Err-clause-journal g c =
     let run : IsRun h.settings h.records = search rules in
     let tells : TellsJournal h c.in-Ok-Err.field-0 = search rules in
     let told = journalled (settings_of server) (opened_with server.lock) h c.try_show.new.pass (Err c.in-Ok-Err.failed)
-    refl server.fresh k.opened run k.seen k.legal (subst (TellsJournal h) c.in-Ok-Err.field-0-is tells) in
+    refl server.fresh k.opened run k.seen k.legal k.home (subst (TellsJournal h) c.in-Ok-Err.field-0-is tells) in
     (told, c.in-Ok-Err.ensures.met)

@@ -17,4 +17,4 @@ returns-clause-answer g c =
     let run : IsRun h.settings h.records = search rules in
     let looked : IsLooked (answers_to h.settings h.records c.args.query.now) answer = search rules in
     answered (settings_of server) (opened_with server.lock) h c.try_show.new.pass c.args.query.now answer refl
-    server.fresh k.opened run k.seen k.legal looked)
+    server.fresh k.opened run k.seen k.legal k.home looked)

@@ -30,4 +30,4 @@ returns-clause-tells g c =
     let k = s.1 in
     let under : ReadUnder h a.device cache.turns cache.pages.entries a.iova a.len r.0 r.1 = search rules in
     tells_read (settings_of server) (opened_with server.lock) h a.device a.iova a.len (stands_so a.pass.now cache)
-    r.0 r.1 c.try_show_later.new.pass refl server.fresh k.opened k.seen k.legal under)
+    r.0 r.1 c.try_show_later.new.pass refl server.fresh k.opened k.seen k.legal k.home under)

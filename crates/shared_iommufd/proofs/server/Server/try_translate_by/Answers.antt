@@ -32,4 +32,4 @@ returns-clause-tells g c =
     let under = subst (λ (kept : KeptCore _). TranslatedUnder kept.core.history a.device cache.turns cache.pages.entries
     a.iova a.kind finds) s.2.1 s.2.2 in
     tells_translation (settings_of server) (opened_with server.lock) h a.device a.iova a.kind
-    (stands_so a.pass.now cache) finds c.try_show_later.new.pass refl server.fresh k.opened k.seen k.legal under)
+    (stands_so a.pass.now cache) finds c.try_show_later.new.pass refl server.fresh k.opened k.seen k.legal k.home under)
