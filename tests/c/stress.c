@@ -1,17 +1,15 @@
 /* Callers map and unmap pages of one address space, each in a thread of its own, while devices read and write there by
    their ports, each in a thread of its own, and flush now and then. What a device reads has to be what the user wrote
-   into that page, whoever unmaps it meanwhile. At the end a line `journal <hex>` stands on standard output, for an audit.
-   `tests/c/run` builds it. */
+   into that page, whoever unmaps it meanwhile. At the end a line `journal <hex>` stands on standard output, for an
+   audit. `tests/c/run` builds it. */
 #include <pthread.h>
-#include <sched.h>
 #include <stdio.h>
-#include <stdlib.h>
 #include <string.h>
 #include <time.h>
 
-#include "defnulk_iommufd.h"
+#include "calls.h"
 
-enum { PAGE = 4096, MAPPERS = 2, DEVICES = 3, EACH = 4, ROUNDS = 100, LENGTH = 16, WRITTEN_AT = 1024 };
+enum { MAPPERS = 2, DEVICES = 3, EACH = 4, ROUNDS = 100, LENGTH = 16, WRITTEN_AT = 1024 };
 
 /* The user's pages, and where an address space has them: page k of mapper m is page m * EACH + k of both. */
 static const uint64_t va = 0x10000, first = PAGE;
@@ -31,46 +29,16 @@ static void pause_a_little(void) {
     nanosleep(&pause, NULL);
 }
 
-static void put(unsigned char *at, uint64_t value) {
-    for (int i = 0; i < 8; i++)
-        at[i] = (unsigned char)(value >> (8 * i));
-}
-
-/* Makes a call of ioctl, again while it can't be served, and answers its status. */
-static int32_t ioctl_of(struct defnulk_handle *caller, uint32_t number, const void *structure, size_t len) {
-    unsigned char room[DEFNULK_LEAST_ROOM];
-    size_t written;
-    int32_t status;
-    while ((status = defnulk_ioctl(caller, 1, number, structure, len, room, sizeof room, &written)) == DEFNULK_NOT_NOW)
-        sched_yield();
-    return status;
-}
-
-/* IOAS_MAP of so many-th page of the user, readable and writeable, at the page of its own. */
-static int32_t map(struct defnulk_handle *caller, uint64_t page) {
-    unsigned char structure[40] = { 40, 0, 0, 0, 7, 0, 0, 0, 1 };
-    put(structure + 16, va + PAGE * page);
-    put(structure + 24, PAGE);
-    put(structure + 32, first + PAGE * page);
-    return ioctl_of(caller, 0x3b85, structure, sizeof structure);
-}
-
-static int32_t unmap(struct defnulk_handle *caller, uint64_t page) {
-    unsigned char structure[24] = { 24, 0, 0, 0, 1 };
-    put(structure + 8, first + PAGE * page);
-    put(structure + 16, PAGE);
-    return ioctl_of(caller, 0x3b86, structure, sizeof structure);
-}
-
 static void *map_on(void *at) {
     struct defnulk_handle *caller = at;
     uint64_t mine = (uint64_t)(caller - callers) * EACH;
     for (int round = 0; round < ROUNDS; round++) {
         uint64_t page = mine + (uint64_t)(round % EACH);
-        int32_t status = map(caller, page);
+        uint64_t length = PAGE;
+        int32_t status = map_page(caller, va + PAGE * page, first + PAGE * page);
         if (status != 0)
             fail("map", status);
-        while ((status = unmap(caller, page)) == -EAGAIN || status == -EDEADLK)
+        while ((status = unmap_bytes(caller, first + PAGE * page, &length)) == -EAGAIN || status == -EDEADLK)
             pause_a_little();
         if (status != 0)
             fail("unmap", status);
@@ -98,22 +66,15 @@ static void access_page(struct defnulk_handle *port, uint64_t page, int writes) 
             fail("another page's byte", bytes[i]);
 }
 
-static void flush(struct defnulk_handle *port) {
-    struct defnulk_outcome out;
-    int32_t status;
-    while ((status = defnulk_port_flush(port, &out)) == DEFNULK_NOT_NOW)
-        sched_yield();
-    if (status != 0)
-        fail("flush", status);
-}
-
 static void *access_on(void *at) {
     struct defnulk_handle *port = at;
     uint64_t turn = (uint64_t)(port - ports);
     while (__atomic_load_n(&mappers_left, __ATOMIC_ACQUIRE) > 0) {
         access_page(port, turn % (MAPPERS * EACH), turn % 9 == 0);
         if (++turn % 64 == 0) {
-            flush(port);
+            int32_t status = flush_port(port);
+            if (status != 0)
+                fail("flush", status);
             pause_a_little();
         }
     }
@@ -125,7 +86,6 @@ static int32_t opened(void) {
     static const uint64_t users[] = { MAPPERS * EACH };
     static const uint16_t files[] = { 1 };
     static const struct defnulk_device devices[DEVICES] = { { 8, 39, 0 }, { 16, 39, 0 }, { 24, 48, 1 } };
-    static const unsigned char alloc[12] = { 12 };
     const struct defnulk_config config = {
         .users = users, .user_count = 1, .files = files, .file_count = 1, .devices = devices, .device_count = DEVICES,
         .pool = 64, .passes = MAPPERS + DEVICES, .lanes = MAPPERS + DEVICES, .cache = 4
@@ -139,7 +99,7 @@ static int32_t opened(void) {
         if (status == 0)
             status = defnulk_user_write(&callers[0], 1, va + PAGE * page, bytes, sizeof bytes, &out);
     }
-    return status != 0 ? status : ioctl_of(&callers[0], 0x3b81, alloc, sizeof alloc);
+    return status != 0 ? status : make_space(&callers[0]);
 }
 
 /* Hands the ports of all devices out, bound and attached, and a handle to each other mapper. */
@@ -171,28 +131,13 @@ static void run_threads(void) {
         pthread_join(mapping[i], NULL);
 }
 
-/* Writes the line of the journal. */
-static int32_t put_journal(void) {
-    size_t len = 0, written = 0;
-    int32_t status = defnulk_journal(&callers[0], NULL, 0, &len);
-    unsigned char *journal = malloc(len + 1);
-    if (status == 0 && journal != NULL)
-        status = defnulk_journal(&callers[0], journal, len, &written);
-    printf("journal ");
-    for (size_t i = 0; i < written && status == 0 && journal != NULL; i++)
-        printf("%02x", journal[i]);
-    printf("\n");
-    free(journal);
-    return status != 0 || written != len ? -1 : 0;
-}
-
 int main(void) {
     int32_t status = opened();
     if (status == 0)
         status = given();
     if (status == 0) {
         run_threads();
-        status = put_journal();
+        status = put_journal(&callers[0]);
     }
     for (int i = 0; i < DEVICES; i++)
         defnulk_close(&ports[i]);

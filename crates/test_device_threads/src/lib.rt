@@ -1,5 +1,5 @@
 //! Tests of devices at work: two in threads of their own, that wait for each other; eight with many jobs while a ninth
-//! thread maps, unmaps and flushes, whose journals are audited; and one that never flushes.
+//! thread maps, unmaps and flushes, whose journals are audited. (One that never flushes is a script of tests/ports.)
 #![tactic(auto)]
 
 #[cfg(test)]
@@ -10,7 +10,5 @@ mod checks;
 mod meeting;
 #[cfg(test)]
 mod opened;
-#[cfg(test)]
-mod stubborn;
 #[cfg(test)]
 mod tasks;

@@ -1,24 +1,28 @@
-//! Whether the auditor says of a server's journal that it is a run.
+//! A server's journal while it is open.
 
-use crate::opened::config;
-use iofd_words::Record;
+ghost use Rattle.shared_iommufd.specs.Servers.{IsPassOf};
+
+use crate::rows::count_records;
 use journal_audit::{Verdict, audit};
-use journal_audit_writing::journal;
-use std::alloc::{Allocator, Global};
+use shared_iommufd::{Pass, Server};
+use std::alloc::Global;
+use std::sync::Wait;
 
-// The journal of a server with so many passes.
-fn journal_of<A: Allocator>(global: Global, records: &[Record<A>], passes: u16) -> Option<Vec<u8>> {
-    let config = config(global, passes)?;
-    journal(global, &config, records).ok()
+/// How many records there are, if the auditor says of the journal that it is a run of so many.
+pub fn audited<R: Wait>(rt: &R, global: Global, server: &Server, pass: &mut Pass) -> Option<u64>
+    requires { IsPassOf server.now pass.old }
+    ensures { IsPassOf server.now pass.new }
+{
+    let count = count_records(rt, server, pass);
+    match server.journal(rt, pass) {
+        Ok(journal) if is_run(global, &journal, count) => Some(count),
+        _ => None,
+    }
 }
 
-/// Whether the journal of a server with so many passes audits as a run of just these records.
-pub fn are_run<A: Allocator>(global: Global, records: &[Record<A>], passes: u16) -> bool {
-    let run = Verdict::Run {
-        records: records.len(),
-    };
-    match journal_of(global, records, passes) {
-        Some(bytes) => audit(global, bytes.as_slice()) == Ok(run),
-        None => false,
+fn is_run(global: Global, journal: &[u8], count: u64) -> bool {
+    match audit(global, journal) {
+        Ok(Verdict::Run { records }) => records as u64 == count,
+        _ => false,
     }
 }

@@ -1,32 +1,16 @@
-//! Tests of the server for threads through its public calls. Most are scripts worked by hand (`scripts`, `ports`): each
-//! step is a call of a pass, or of a device's port, and is told by one line. `lent` opens a server for each, lends it
-//! out, and closes it again.
+//! Tests of the server for threads through its calls that wait: scripts worked by hand, each step of which is a call of
+//! a pass and is told by one line; a device's port beside another pass; and passes in threads of their own. Calls that
+//! don't wait are tested in C (`tests/c`), over more scripts, and so is want of memory.
 #![tactic(auto)]
 
 #[cfg(test)]
-mod at_once;
-#[cfg(test)]
-mod beside_core;
-#[cfg(test)]
-mod device_steps;
-#[cfg(test)]
-mod growth;
-#[cfg(test)]
 mod journals;
-#[cfg(test)]
-mod lent;
-#[cfg(test)]
-mod limits;
 #[cfg(test)]
 mod lines;
 #[cfg(test)]
 mod opened;
 #[cfg(test)]
-mod pieces;
-#[cfg(test)]
 mod ports;
-#[cfg(test)]
-mod recent;
 #[cfg(test)]
 mod rows;
 #[cfg(test)]

@@ -1,13 +1,10 @@
 //! Whether what a server answers is what a line of a session tells.
 
-use iofd_words::{Answer, Burst, CallError, NoMemory, Reply, Span};
+use iofd_words::{Answer, CallError, NoMemory, Reply, Span};
 use iommufd_cli::{Line, notices_line};
-use iommufd_core::Stamp;
 use iommufd_script::HexBytes;
-use shared_iommufd::{IoctlAnswer, PortCause, PortError, TryError};
-use std::alloc::{Allocator, Global};
-
-const NO_MEMORY: &[u8] = b"12 Memory";
+use shared_iommufd::{IoctlAnswer, Stamp};
+use std::alloc::Global;
 
 // Whether the line, with its line feed, is this text.
 fn is_text(line: &[u8], text: &[u8]) -> bool {
@@ -17,7 +14,6 @@ fn is_text(line: &[u8], text: &[u8]) -> bool {
     }
 }
 
-// Whether the text tells the reply to a step that is no ioctl.
 fn tells_reply(text: &[u8], reply: &Reply) -> bool {
     let mut line = Line::new();
     line.tell_reply(reply);
@@ -32,35 +28,22 @@ pub fn tells_answer(text: &[u8], answer: &Answer) -> bool {
 }
 
 /// Whether the text tells what a call made, and the record stands behind so many.
-pub fn tells_stamp(text: &[u8], stamp: Result<Stamp, TryError<NoMemory>>, before: u64) -> bool {
+pub fn tells_stamp(text: &[u8], stamp: &Result<Stamp, NoMemory>, before: u64) -> bool {
     match stamp {
         Ok(stamp) => stamp.at == before && tells_reply(text, &stamp.reply),
-        Err(TryError::Call(NoMemory)) => text == NO_MEMORY,
-        Err(TryError::NotNow(_)) => false,
-    }
-}
-
-// Whether the text tells why there are no notices.
-fn tells_call_error(text: &[u8], error: CallError) -> bool {
-    match error {
-        CallError::Refused(refusal) => tells_answer(text, &Answer::Refused(refusal)),
-        CallError::Memory(NoMemory) => text == NO_MEMORY,
+        Err(NoMemory) => false,
     }
 }
 
 /// Whether the text tells these notices.
-pub fn tells_notices<A: Allocator>(
-    global: Global,
-    text: &[u8],
-    notices: Result<Vec<Span, A>, TryError<CallError>>,
-) -> bool {
+pub fn tells_notices(global: Global, text: &[u8], notices: &Result<Vec<Span>, CallError>) -> bool {
     match notices {
         Ok(spans) => match notices_line(global, spans.as_slice()) {
             Ok(line) => is_text(line.as_slice(), text),
             Err(_) => false,
         },
-        Err(TryError::Call(error)) => tells_call_error(text, error),
-        Err(TryError::NotNow(_)) => false,
+        Err(CallError::Refused(refusal)) => tells_answer(text, &Answer::Refused(*refusal)),
+        Err(CallError::Memory(NoMemory)) => false,
     }
 }
 
@@ -92,19 +75,7 @@ fn is_hex(global: Global, text: &[u8], bytes: &[u8]) -> bool {
 
 /// Whether the text tells the answer to an ioctl: the number of the error, or 0, and in hex what is written back, if
 /// anything is.
-pub fn tells_ioctl<A: Allocator>(
-    global: Global,
-    text: &[u8],
-    answer: Result<IoctlAnswer<A>, TryError<NoMemory>>,
-) -> bool {
-    match answer {
-        Ok(answer) => tells_written(global, text, &answer),
-        Err(TryError::Call(NoMemory)) => text == NO_MEMORY,
-        Err(TryError::NotNow(_)) => false,
-    }
-}
-
-fn tells_written<A: Allocator>(global: Global, text: &[u8], answer: &IoctlAnswer<A>) -> bool {
+pub fn tells_ioctl(global: Global, text: &[u8], answer: &IoctlAnswer) -> bool {
     let errno = match answer.errno {
         Some(errno) => errno.number(),
         None => 0,
@@ -113,66 +84,5 @@ fn tells_written<A: Allocator>(global: Global, text: &[u8], answer: &IoctlAnswer
     match behind_number(text, errno) {
         Some(word) => bytes.is_empty() || is_hex(global, word, bytes),
         None => false,
-    }
-}
-
-// Whether the text tells why an access of a port ended.
-fn tells_cause(text: &[u8], cause: TryError<PortCause>) -> bool {
-    match cause {
-        TryError::Call(PortCause::Fault(fault)) => tells_answer(text, &Answer::Fault(fault)),
-        TryError::Call(PortCause::Refused(refusal)) => {
-            tells_answer(text, &Answer::Refused(refusal))
-        }
-        TryError::Call(PortCause::Memory(NoMemory)) => text == NO_MEMORY,
-        TryError::NotNow(_) => false,
-    }
-}
-
-// Whether the text tells what passed at first, and behind a space why no more did.
-fn tells_both(text: &[u8], passed: &Answer, cause: TryError<PortCause>) -> bool {
-    let mut line = Line::new();
-    line.tell_answer(passed);
-    match line.as_slice().split_last() {
-        Some((_, words)) => match text.strip_prefix(words) {
-            Some(rest) => tells_behind_space(rest, cause),
-            None => false,
-        },
-        None => false,
-    }
-}
-
-fn tells_behind_space(text: &[u8], cause: TryError<PortCause>) -> bool {
-    match text {
-        [b' ', rest @ ..] => tells_cause(rest, cause),
-        _ => false,
-    }
-}
-
-/// Whether the text tells a read of a port: `ok` and the bytes, or why there are none, or both where it ended early.
-pub fn tells_read(
-    text: &[u8],
-    outcome: Result<(), PortError<TryError<PortCause>>>,
-    buffer: &[u8],
-) -> bool {
-    match outcome {
-        Ok(()) => match Burst::new(buffer) {
-            Some(bytes) => tells_answer(text, &Answer::Read(bytes)),
-            None => false,
-        },
-        Err(PortError { done: 0, cause }) => tells_cause(text, cause),
-        Err(PortError { done, cause }) => match Burst::new(&buffer[..done.min(buffer.len())]) {
-            Some(bytes) => tells_both(text, &Answer::Read(bytes), cause),
-            None => false,
-        },
-    }
-}
-
-/// Whether the text tells a write of a port: `ok`, or why nothing was written, or `ok` with how many bytes were, and
-/// why no more.
-pub fn tells_write(text: &[u8], outcome: Result<(), PortError<TryError<PortCause>>>) -> bool {
-    match outcome {
-        Ok(()) => text == b"ok".as_slice(),
-        Err(PortError { done: 0, cause }) => tells_cause(text, cause),
-        Err(PortError { done, cause }) => tells_both(text, &Answer::Count(done as u64), cause),
     }
 }

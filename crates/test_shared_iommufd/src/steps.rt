@@ -5,15 +5,14 @@ ghost use Rattle.guarded_core.specs.OfPort.{event_of_port, query_of_port};
 ghost use Rattle.shared_iommufd.specs.Servers.{IsPassOf};
 
 use crate::lines::{tells_answer, tells_ioctl, tells_notices, tells_stamp};
-use iofd_words::{Act, CallError, Event, FileNo, NoMemory, ObjId, Query, Span};
-use iommufd_core::Stamp;
+use iofd_words::{Act, Event, FileNo, Query};
 use iommufd_script::{HexBytes, Step};
-use shared_iommufd::{IoctlAnswer, Pass, Server, TryError};
-use std::alloc::{Allocator, Global};
+use shared_iommufd::{Pass, Server};
+use std::alloc::Global;
 use std::sync::Wait;
 
 // The event of a step, if it is one of those in the scripts.
-fn event_of<A: Allocator>(step: &Step<'_>) -> Option<Event<A>>
+fn event_of(step: &Step<'_>) -> Option<Event>
     ensures { IfSome result (λ event. event_of_port event ≡ false) }
 {
     match step {
@@ -54,40 +53,16 @@ fn query_of(step: &Step<'_>) -> Option<Query>
     }
 }
 
-// What an ioctl is answered, waiting or not.
-fn ioctl_answer<R: Wait, A: Allocator + Copy>(
-    rt: &R,
-    server: &Server<A>,
-    pass: &mut Pass<A>,
-    file: FileNo,
-    number: u32,
-    bytes: &[u8],
-    waits: bool,
-) -> Result<IoctlAnswer<A>, TryError<NoMemory>>
-    requires { IsPassOf server.now pass.old }
-    ensures { IsPassOf server.now pass.new }
-{
-    if waits {
-        match server.ioctl(rt, pass, file, number, bytes) {
-            Ok(answer) => Ok(answer),
-            Err(error) => Err(TryError::Call(error)),
-        }
-    } else {
-        server.try_ioctl(pass, file, number, bytes)
-    }
-}
-
 // Whether the ioctl that these digits spell has this line.
-fn is_ioctl<R: Wait, A: Allocator + Copy>(
+fn is_ioctl<R: Wait>(
     rt: &R,
     global: Global,
-    server: &Server<A>,
-    pass: &mut Pass<A>,
+    server: &Server,
+    pass: &mut Pass,
     file: FileNo,
     number: u32,
     spelt: &HexBytes<'_>,
     line: &[u8],
-    waits: bool,
 ) -> bool
     requires { IsPassOf server.now pass.old }
     ensures { IsPassOf server.now pass.new }
@@ -95,124 +70,71 @@ fn is_ioctl<R: Wait, A: Allocator + Copy>(
     let Ok(bytes) = spelt.to_vec(global) else {
         return false;
     };
-    let answer = ioctl_answer(rt, server, pass, file, number, &bytes, waits);
-    tells_ioctl(global, line, answer)
-}
-
-/// What an event makes, waiting or not.
-pub fn stamp<R: Wait, A: Allocator + Copy>(
-    rt: &R,
-    server: &Server<A>,
-    pass: &mut Pass<A>,
-    act: &Act<A>,
-    waits: bool,
-) -> Result<Stamp, TryError<NoMemory>>
-    requires owned { IsPassOf server.now pass.old }
-    requires via { act.now.via ≡ None }
-    requires event { event_of_port act.now.event ≡ false }
-    ensures { IsPassOf server.now pass.new }
-{
-    if waits {
-        match server.call(rt, pass, act) {
-            Ok(stamp) => Ok(stamp),
-            Err(error) => Err(TryError::Call(error)),
-        }
-    } else {
-        server.try_call(pass, act)
-    }
-}
-
-// Whether a question has this line.
-fn is_query<R: Wait, A: Allocator + Copy>(
-    rt: &R,
-    server: &Server<A>,
-    pass: &mut Pass<A>,
-    query: &Query,
-    line: &[u8],
-    waits: bool,
-) -> bool
-    requires owned { IsPassOf server.now pass.old }
-    requires query { query_of_port query.now ≡ false }
-    ensures { IsPassOf server.now pass.new }
-{
-    if waits {
-        return tells_answer(line, &server.look(rt, pass, query));
-    }
-    match server.try_look(pass, query) {
-        Ok(answer) => tells_answer(line, &answer),
+    match server.ioctl(rt, pass, file, number, &bytes) {
+        Ok(answer) => tells_ioctl(global, line, &answer),
         Err(_) => false,
     }
 }
 
-// The notices of an access object, waiting or not.
-fn notices<R: Wait, A: Allocator + Copy>(
+// Whether an event has this line, where so many records were made before.
+fn is_made<R: Wait>(
     rt: &R,
-    server: &Server<A>,
-    pass: &mut Pass<A>,
-    file: FileNo,
-    access: ObjId,
-    waits: bool,
-) -> Result<Vec<Span, A>, TryError<CallError>>
-    requires { IsPassOf server.now pass.old }
+    server: &Server,
+    pass: &mut Pass,
+    event: Event,
+    line: &[u8],
+    before: u64,
+) -> bool
+    requires owned { IsPassOf server.now pass.old }
+    requires event { event_of_port event ≡ false }
     ensures { IsPassOf server.now pass.new }
 {
-    if waits {
-        match server.notices(rt, pass, file, access) {
-            Ok(spans) => Ok(spans),
-            Err(error) => Err(TryError::Call(error)),
-        }
-    } else {
-        server.try_notices(pass, file, access)
-    }
+    let act = Act { event, via: None };
+    let stamp = server.call(rt, pass, &act);
+    tells_stamp(line, &stamp, before)
 }
 
 // Whether a step that is an event or a question has this line, where so many records were made before.
-fn is_told<R: Wait, A: Allocator + Copy>(
+fn is_told<R: Wait>(
     rt: &R,
-    server: &Server<A>,
-    pass: &mut Pass<A>,
+    server: &Server,
+    pass: &mut Pass,
     step: &Step<'_>,
     line: &[u8],
     before: u64,
-    waits: bool,
 ) -> bool
     requires { IsPassOf server.now pass.old }
     ensures { IsPassOf server.now pass.new }
 {
-    if let Some(query) = query_of(step) {
-        return is_query(rt, server, pass, &query, line, waits);
-    }
-    match event_of(step) {
-        Some(event) => {
-            let act = Act { event, via: None };
-            tells_stamp(line, stamp(rt, server, pass, &act, waits), before)
-        }
-        None => false,
+    match query_of(step) {
+        Some(query) => tells_answer(line, &server.look(rt, pass, &query)),
+        None => match event_of(step) {
+            Some(event) => is_made(rt, server, pass, event, line, before),
+            None => false,
+        },
     }
 }
 
-/// Whether the step has this line, by a call that waits or by one that doesn't, where so many records were made before.
-pub fn is_answered<R: Wait, A: Allocator + Copy>(
+/// Whether the step has this line, where so many records were made before.
+pub fn is_answered<R: Wait>(
     rt: &R,
     global: Global,
-    server: &Server<A>,
-    pass: &mut Pass<A>,
+    server: &Server,
+    pass: &mut Pass,
     step: &Step<'_>,
     line: &[u8],
     before: u64,
-    waits: bool,
 ) -> bool
     requires { IsPassOf server.now pass.old }
     ensures { IsPassOf server.now pass.new }
 {
     match step {
         Step::Ioctl(file, number, bytes) => {
-            is_ioctl(rt, global, server, pass, *file, *number, bytes, line, waits)
+            is_ioctl(rt, global, server, pass, *file, *number, bytes, line)
         }
         Step::Notices(file, access) => {
-            let notices = notices(rt, server, pass, *file, *access, waits);
-            tells_notices(global, line, notices)
+            tells_notices(global, line, &server.notices(rt, pass, *file, *access))
         }
-        _ => is_told(rt, server, pass, step, line, before, waits),
+        _ => is_told(rt, server, pass, step, line, before),
     }
 }

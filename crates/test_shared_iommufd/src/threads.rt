@@ -5,10 +5,11 @@ ghost use Rattle.lane_lock.specs.Passes.{OwnsAll};
 ghost use Rattle.guarded_core.specs.OfPort.{event_of_port};
 ghost use Rattle.shared_iommufd.specs.Servers.{IsPassOf};
 
+use crate::opened::opened;
 use crate::rows::count_records;
-use crate::steps::stamp;
 use iofd_words::{Act, Event, PassNo, Record, UserNo};
-use shared_iommufd::{Pass, Server};
+use shared_iommufd::{CloseError, Core, Pass, Server};
+use std::alloc::Global;
 use std::sync::Wait;
 use std::thread::{Threads, for_each_mut};
 
@@ -43,7 +44,7 @@ fn work<R: Wait>(rt: &R, server: &Server, pass: &mut Pass)
             event: event(number, step),
             via: None,
         };
-        let _stamp = stamp(rt, server, pass, &act, true);
+        let _stamp = server.call(rt, pass, &act);
         let _count = count_records(rt, server, pass);
     }
 }
@@ -64,13 +65,12 @@ fn four_work<R: Threads + Wait + Sync>(rt: &R, server: &Server, passes: &mut [Pa
     );
 }
 
-/// They do, and are done.
-pub fn all_work<R: Threads + Wait + Sync>(rt: &R, server: &Server, passes: &mut Vec<Pass>) -> bool
+// The same, of a list.
+fn all_work<R: Threads + Wait + Sync>(rt: &R, server: &Server, passes: &mut Vec<Pass>)
     requires { OwnsAll server.now.lock passes.old.items }
     ensures { OwnsAll server.now.lock passes.new.items }
 {
     four_work(rt, server, passes);
-    true
 }
 
 // Whether the record is the pass's own at this step.
@@ -96,11 +96,34 @@ fn has_steps(records: &[Record], pass: PassNo) -> bool {
     step == STEPS
 }
 
-/// Whether these are the steps of four passes.
-pub fn are_of_four(records: &[Record]) -> bool {
+// Whether these are the steps of four passes.
+fn are_of_four(records: &[Record]) -> bool {
     records.len() == 400
         && has_steps(records, PassNo(0))
         && has_steps(records, PassNo(1))
         && has_steps(records, PassNo(2))
         && has_steps(records, PassNo(3))
+}
+
+// Whether a server ends with them.
+fn ends(closed: Result<Core, CloseError>) -> bool {
+    match closed {
+        Ok(core) => are_of_four(core.records()),
+        Err(_) => false,
+    }
+}
+
+fn happens<R: Threads + Wait + Sync>(rt: &R, global: Global) -> bool {
+    match opened(global, 4) {
+        Some((server, _key, mut passes)) => {
+            all_work(rt, &server, &mut passes);
+            ends(server.close(passes))
+        }
+        None => false,
+    }
+}
+
+#[test]
+fn four_passes_make_each_record_once(rt: HostRuntime) {
+    assert!(rt; happens(&rt, rt.alloc()));
 }

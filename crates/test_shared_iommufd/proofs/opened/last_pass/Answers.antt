@@ -3,11 +3,11 @@ use Rattle.test_shared_iommufd.proofs.Passes.{left, taken}
 use Rattle.test_shared_iommufd.proofs.opened.last_pass.Goals as goal
 
 pub returns-clause-taken : goal.returns-clause-taken
-returns-clause-taken g c =
+returns-clause-taken c =
     taken (Owns c.args.server.now.lock) c.args.passes.now.items c.pop.new.self.items c.pop.result c.pop.ensures.items
     c.requires
 
 pub returns-clause-left : goal.returns-clause-left
-returns-clause-left g c =
+returns-clause-left c =
     left (Owns c.args.server.now.lock) c.args.passes.now.items c.pop.new.self.items c.pop.result c.pop.ensures.items
     c.requires

@@ -4,7 +4,7 @@ use Rattle.test_shared_iommufd.proofs.Passes.{put}
 use Rattle.test_shared_iommufd.proofs.opened.put_last.Goals as goal
 
 pub returns : goal.returns
-returns g c =
+returns c =
     let lock = c.args.server.now.lock in
     subst (OwnsAll lock) (sym c.push.ensures.items)
     (put (Owns lock) c.args.passes.now.items c.args.pass (is_ok c.push.result) c.requires.0 c.requires.1)

@@ -1,5 +1,0 @@
-use Rattle.shared_iommufd.specs.Servers.{IsPassOf}
-use Rattle.test_shared_iommufd.proofs.beside_core.are_opened.Given as goal
-
-abbrev pub invariant-loop-page : goal.invariant-loop-page
-invariant-loop-page g l = IsPassOf l.server l.pass
