@@ -9,7 +9,7 @@ use std::alloc::Global;
 // Each attachment, detachment and flush is a turn, a refused one too. The page that was unmapped is translated no more,
 // and may be read and written at its frame until the flush, and at no other one.
 static STEPS: [(Step, Reply); 35] = [
-    (Step::AttachedTo(DEVICE), UNKNOWN),
+    (Step::AttachedTo(DEVICE), Reply::Done),
     (Step::Space, Reply::Id(ObjId(1))),
     (Step::UserPage, Reply::Frame(FrameNo(0))),
     (Step::Map, Reply::Iova(Iova(0x1000))),
