@@ -2,8 +2,8 @@
 """Builds the static library of crates/iommufd_c over the libraries that `rt ci` has just proved in this clone.
 
 `rt ci` leaves each library in crates/NAME/out/rlib without the stamp by which `rt lib` knows what it was made from, so
-that `rt lib` alone would prove all of them once more. This writes the stamps, and then is `rt lib`. To be run at the top
-of the repository right after `rt ci`, and never after an edit.
+that `rt lib` alone would prove all of them once more. This writes the stamps, and then is `rt lib`. To be run at the
+top of the repository right after `rt ci`, and never after an edit.
 """
 import importlib.machinery
 import importlib.util

@@ -1,5 +1,5 @@
-/* How long a call through the static library takes: one caller and one port, in one thread, nothing beside them. Each row
-   is the time of so many calls of a kind, by their number; the best of three. `bench/calls` builds and runs it. */
+/* How long a call through the static library takes: one caller and one port, in one thread, nothing beside them. Each
+   row is the time of so many calls of a kind, by their number; the best of three. `bench/calls` builds and runs it. */
 #include <stdio.h>
 #include <string.h>
 #include <time.h>

@@ -1,7 +1,7 @@
-/* How many reads of 64 bytes are made in a second: by one thread, two and four, each by the port of a device of its own,
-   over the pages of one address space in turn. Ports that keep as many pages find each (hits); ports that keep a few find
-   none (misses). Beside them callers read the same bytes as the user's memory. Nothing else is called meanwhile.
-   `bench/ports [seconds]` builds and runs it. */
+/* How many reads of 64 bytes are made in a second: by one thread, two and four, each by the port of a device of its
+   own, over the pages of one address space in turn. Ports that keep as many pages find each (hits); ports that keep a
+   few find none (misses). Beside them callers read the same bytes as the user's memory. Nothing else is called
+   meanwhile. `bench/ports [seconds]` builds and runs it. */
 #include <pthread.h>
 #include <stdio.h>
 #include <stdlib.h>

@@ -156,8 +156,8 @@ function unmap_all() {
     unmap_everything()
 }
 
-# UNMAPs of one area each, where so many are leaving and owed by nobody. Of the areas of a page each every `step`th goes,
-# round and round until all have gone but for the last ones.
+# UNMAPs of one area each, where so many are leaving and owed by nobody. Of the areas of a page each every `step`th
+# goes, round and round until all have gone but for the last ones.
 function unmap_leaving(step,    i, at) {
     head(256)
     alloc(1)

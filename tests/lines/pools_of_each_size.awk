@@ -1,6 +1,6 @@
-# One script in pools of 1 to 40 frames: pages, maps, copies, page tables of three widths and unmaps. A step that lacks a
-# frame is answered so, and nothing else is; the tables that a step needs are counted here by the parts of addresses that
-# lead to them.
+# One script in pools of 1 to 40 frames: pages, maps, copies, page tables of three widths and unmaps. A step that lacks
+# a frame is answered so, and nothing else is; the tables that a step needs are counted here by the parts of addresses
+# that lead to them.
 #
 #     awk -f pools_of_each_size.awk    # the cases
 

@@ -1,10 +1,9 @@
 //! A server whose device is attached to an address space of the pages that are read.
 
 ghost use Rattle.std.specs.Prelude.{◌≡◌, false, IfSome, None};
-ghost use Rattle.lane_lock.specs.Passes.{OwnsAll};
 ghost use Rattle.guarded_core.specs.OfPort.{event_of_port};
 ghost use Rattle.shared_iommufd.specs.Ports.{AllKeys, IsKeyOf, IsPortOf};
-ghost use Rattle.shared_iommufd.specs.Servers.{IsPassOf};
+ghost use Rattle.shared_iommufd.specs.Servers.{ArePassesOf, IsPassOf};
 
 use iofd_words::{
     Act, Config, DeviceConfig, DeviceNo, Event, FileNo, Iova, MapFlags, MapRequest, ObjId, Reply,
@@ -99,15 +98,14 @@ fn make_all<R: Wait>(rt: &R, server: &Server, pass: &mut Pass) -> bool
     all
 }
 
-fn first_pass(server: &Server, passes: &mut Vec<Pass>) -> Option<Pass>
-    requires { OwnsAll server.now.lock passes.old.items }
+fn last_pass(server: &Server, passes: &mut Vec<Pass>) -> Option<Pass>
+    requires { ArePassesOf server.now passes.old.items }
     ensures { IfSome result (IsPassOf server.now) }
 {
     let _ = server;
-    if passes.is_empty() {
-        None
-    } else {
-        Some(passes.swap_remove(0))
+    match passes.pop() {
+        Some(pass) => Some(pass),
+        None => None,
     }
 }
 
@@ -126,7 +124,7 @@ fn first_key(server: &Server, keys: &mut Vec<PortKey>, cache: u16) -> Option<Por
 
 // A server whose ports keep so many pages, with its key and its passes.
 fn opened_with(alloc: Global, config: &Config, cache: u16) -> Option<(Server, PortKey, Vec<Pass>)>
-    ensures { IfSome result (λ r. IsKeyOf r.0 r.1 × OwnsAll r.0.lock r.2.items) }
+    ensures { IfSome result (λ r. IsKeyOf r.0 r.1 × ArePassesOf r.0 r.2.items) }
 {
     match Server::new(alloc, alloc, config, 1, cache) {
         Ok((server, passes, mut keys)) => match first_key(&server, &mut keys, cache) {
@@ -156,7 +154,7 @@ pub fn opened<R: Wait>(rt: &R, alloc: Global, cache: u16) -> Option<(Server, Por
     ensures { IfSome result (λ r. IsPortOf r.0 r.1) }
 {
     let (server, key, mut passes) = opened_with(alloc, &config(alloc)?, cache)?;
-    let mut pass = first_pass(&server, &mut passes)?;
+    let mut pass = last_pass(&server, &mut passes)?;
     if !make_all(rt, &server, &mut pass) {
         return None;
     }

@@ -104,9 +104,9 @@ module _ {A : Type 0} {g : CoreGhosts A} (settings : Settings) where
   grows_pieces device most address left o p before [] grows follow = grows
   grows_pieces device most address left o p before (x ∷ xs) grows follow =
       grows_pieces device most (address + length x.bytes) (left - length x.bytes) o x.after x.at xs
-      (grows_so device most address x.bytes o p before (reply.Passed follow.2.frame) x.at x.after grows
-      follow.2.written)
-      follow.3
+      (grows_so device most address x.bytes o p before (reply.Passed follow.3.frame) x.at x.after grows
+      follow.3.written)
+      follow.4
 
   grows_written : (device : DeviceNo) (most address : ℕ) (bytes : List ℕ) (p : Standing A g) (done : ℕ)
       (q : Standing A g) (last : Option ℕ) → HasWritten settings device most address bytes p done q last

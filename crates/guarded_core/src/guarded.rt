@@ -29,6 +29,7 @@ pub fn show<R: Wait, K: Kept, Q, T, F: Fn(&K, Q) -> T>(
     ensures sees { OnlySees (view_of pass.old) (view_of pass.new) }
     ensures shown { (value : K) × Shown lock.now pass.new value
         × ((x : _) × (x.now ≡ value) × F.post ask x question result) }
+    ensures home { IsBlank (view_of pass.new) }
 {
     let guard = lock.read(rt, pass);
     let answer = ask(guard.get(), question);
@@ -53,6 +54,7 @@ pub fn try_show<K: Kept, Q: Copy, T, F: Fn(&K, Q) -> T>(
         × ((x : _) × (x.now ≡ value) × F.post ask x question answer)) }
     ensures met { IfOk result (λ _. MetNone (view_of pass.old) (view_of pass.new)) }
     ensures refused { IfErr result (RefusesRead (view_of pass.old) (view_of pass.new) (lane_of pass.old)) }
+    ensures home { IsBlank (view_of pass.old) → IsBlank (view_of pass.new) }
 {
     try_show_later(lock, pass, question, ask)
 }
@@ -76,6 +78,7 @@ pub fn try_show_later<K: Kept, Q: Copy, T, F: Fn(&K, Q) -> T>(
         × ((x : _) × (x.now ≡ value) × F.post ask x question answer)) }
     ensures met { IfOk result (λ _. MetNone (view_of pass.old) (view_of pass.new)) }
     ensures refused { IfErr result (RefusesRead (view_of pass.old) (view_of pass.new) (lane_of pass.old)) }
+    ensures home { IsBlank (view_of pass.old) → IsBlank (view_of pass.new) }
 {
     match pass.try_read(lock) {
         Ok(guard) => {
@@ -118,6 +121,7 @@ pub fn try_commit<K: Kept>(
     ensures committed { IfOk result (λ stamp. Committed lock.now pass.old act.now stamp pass.new) }
     ensures met { IfOk result (λ _. MetNone (view_of pass.old) (view_of pass.new)) }
     ensures refused { IfErr result (RefusesCommit (lanes_of lock.now) (view_of pass.old) (view_of pass.new)) }
+    ensures home { IsBlank (view_of pass.old) → IsBlank (view_of pass.new) }
 {
     match pass.try_write(lock) {
         Ok(guard) => match guard.commit(act) {
@@ -148,6 +152,7 @@ where
         × FnReturnsAt F.Fn make.now c.before (r.0, act)) }
     ensures met { IfOk result (λ _. MetNone (view_of pass.old) (view_of pass.new)) }
     ensures refused { IfErr result (RefusesCommit (lanes_of lock.now) (view_of pass.old) (view_of pass.new)) }
+    ensures home { IsBlank (view_of pass.old) → IsBlank (view_of pass.new) }
 {
     match pass.try_write(lock) {
         Ok(guard) => {

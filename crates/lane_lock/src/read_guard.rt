@@ -84,7 +84,7 @@ impl<'a, K: Kept> ReadGuard<'a, K> {
 }
 
 impl<'a, K: Kept> Drop for ReadGuard<'a, K> {
-    ghost use Rattle.lane_lock.specs.Outcomes.{KeepsHistory};
+    ghost use Rattle.lane_lock.specs.Outcomes.{KeepsHistory, MetNone};
     ghost use Rattle.lane_lock.specs.Passes.{SamePass, IsReading, view_of};
     ghost use Rattle.lane_lock.specs.Views.{IsBlank};
 
@@ -92,6 +92,7 @@ impl<'a, K: Kept> Drop for ReadGuard<'a, K> {
         requires { IsReading self.pass.now }
         ensures same_pass { SamePass self.entry.pass.now self.exit.1.0.now }
         ensures history { KeepsHistory (view_of self.entry.pass.now) (view_of self.exit.1.0.now) }
+        ensures met { MetNone (view_of self.entry.pass.now) (view_of self.exit.1.0.now) }
         ensures blank { IsBlank (view_of self.exit.1.0.now) }
     {
         let ReadGuard { lock, pass } = self;

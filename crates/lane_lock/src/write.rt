@@ -146,6 +146,7 @@ impl<K: Kept> LaneLock<K> {
         requires writing { IsWriting self.now pass.old }
         ensures same { SamePass pass.old pass.new }
         ensures history { KeepsHistory (view_of pass.old) (view_of pass.new) }
+        ensures met { MetNone (view_of pass.old) (view_of pass.new) }
         ensures blank { IsBlank (view_of pass.new) }
     {
         let lanes = &self.table.shared;

@@ -94,6 +94,7 @@ impl<'a, K: Kept> WriteGuard<'a, K> {
         requires { IsWriting self.lock.now self.pass.now }
         ensures same_pass { SamePass self.entry.pass.now self.exit.1.0.now }
         ensures history { KeepsHistory (view_of self.entry.pass.now) (view_of self.exit.1.0.now) }
+        ensures met { MetNone (view_of self.entry.pass.now) (view_of self.exit.1.0.now) }
         ensures blank { IsBlank (view_of self.exit.1.0.now) }
     {
         let WriteGuard { lock, pass } = self;
@@ -109,7 +110,7 @@ impl<'a, K: Kept> WriteGuard<'a, K> {
 }
 
 impl<'a, K: Kept> Drop for WriteGuard<'a, K> {
-    ghost use Rattle.lane_lock.specs.Outcomes.{KeepsHistory};
+    ghost use Rattle.lane_lock.specs.Outcomes.{KeepsHistory, MetNone};
     ghost use Rattle.lane_lock.specs.Passes.{SamePass, IsWriting, view_of};
     ghost use Rattle.lane_lock.specs.Views.{IsBlank};
 
@@ -117,6 +118,7 @@ impl<'a, K: Kept> Drop for WriteGuard<'a, K> {
         requires { IsWriting self.lock.now self.pass.now }
         ensures same_pass { SamePass self.entry.pass.now self.exit.1.0.now }
         ensures history { KeepsHistory (view_of self.entry.pass.now) (view_of self.exit.1.0.now) }
+        ensures met { MetNone (view_of self.entry.pass.now) (view_of self.exit.1.0.now) }
         ensures blank { IsBlank (view_of self.exit.1.0.now) }
     {
         let WriteGuard { lock, pass } = self;

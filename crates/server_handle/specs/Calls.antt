@@ -22,6 +22,7 @@ use Rattle.guarded_core.specs.Guarded.{RefusesCommit}
 use Rattle.guarded_core.specs.declared.try_error.TryError.{TryError}
 use Rattle.shared_iommufd.specs.Ioctls.{IsDecoded, RefusesIoctl}
 use Rattle.shared_iommufd.specs.Made.{Makes, act_of}
+use Rattle.shared_iommufd.specs.Met.{MetAsTold}
 use Rattle.shared_iommufd.specs.PortReads.{Reads}
 use Rattle.shared_iommufd.specs.PortTranslations.{Translates}
 use Rattle.shared_iommufd.specs.PortWrites.{Writes}
@@ -72,7 +73,7 @@ pub record Serves (file : FileNo) (number : ℕ) (bytes : List ℕ) (c : Caller)
   pub same : SameCaller c d
   pub served : IfOk told (λ answer. IsDecoded (settings_of (arc_value c.server)) c.pass file number bytes answer d.pass)
   pub met : IfOk told (λ _. MetNone (view_of c.pass) (view_of d.pass))
-  pub refused : IfErr told (RefusesIoctl number bytes (lanes_of (arc_value c.server).lock) (lane_of c.pass)
+  pub refused : IfErr told (RefusesIoctl Global file number bytes (lanes_of (arc_value c.server).lock) (lane_of c.pass)
       (view_of c.pass) (view_of d.pass))
 
 -- the device's turn made one record, which the stamp tells, or none; the port keeps nothing
@@ -92,6 +93,7 @@ pub record ReadsBytes (address : ℕ) (old new : List ℕ) (p : Device) (access 
   pub reads : Reads (settings_of (arc_value p.server)) p.port.device (most_of p.port) address old (standing_of p.port)
       access.ended (standing_of q.port) new
   pub met : IfOk access.ended (λ _. MetNone (view_of p.port.pass) (view_of q.port.pass))
+  pub told : IfErr access.ended (λ e. MetAsTold (view_of p.port.pass) (view_of q.port.pass) e.cause)
   pub last : access.last ≡ None
 
 -- the device writes these bytes, from the address on, as far as it comes
@@ -100,6 +102,7 @@ pub record WritesBytes (address : ℕ) (bytes : List ℕ) (p : Device) (access :
   pub writes : Writes (settings_of (arc_value p.server)) (lanes_of (arc_value p.server).lock) p.port.device
       (most_of p.port) address bytes (standing_of p.port) access.ended (standing_of q.port) access.last
   pub met : IfOk access.ended (λ _. MetNone (view_of p.port.pass) (view_of q.port.pass))
+  pub told : IfErr access.ended (λ e. MetAsTold (view_of p.port.pass) (view_of q.port.pass) e.cause)
 
 -- the device's page at the address is translated so, where it has the right, after all records that the port's pass has
 -- then seen, and made no record; or its lane couldn't be had

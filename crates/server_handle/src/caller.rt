@@ -3,8 +3,8 @@
 ghost use Rattle.std.specs.Prelude.{◌≡◌, ◌<◌, ◌++◌, ◌∷◌, [], length};
 ghost use Rattle.std.specs.Arc.{arc_value};
 ghost use Rattle.shared_iommufd.specs.Ports.{IsKeyOf};
-ghost use Rattle.shared_iommufd.specs.Servers.{IsPassOf};
-ghost use Rattle.server_handle.specs.Given.{AreKeysOf, ArePassesOf};
+ghost use Rattle.shared_iommufd.specs.Servers.{ArePassesOf, IsPassOf};
+ghost use Rattle.server_handle.specs.Given.{AreKeysOf};
 
 use crate::device::{Device, MARGIN};
 use crate::error::GiveError;

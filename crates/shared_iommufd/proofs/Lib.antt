@@ -4,9 +4,11 @@ pub mod DeviceAnswers
 pub mod Ended
 pub mod IoctlBytes
 pub mod Keys
+pub mod MetLanes
 pub mod Passed
 pub mod PortReads
 pub mod PortTranslations
 pub mod PortWrites
+pub mod Refused
 pub mod SamePorts
 pub mod Shown

@@ -1,5 +1,5 @@
 -- Pieces that have passed, and one more.
-use Rattle.std.proofs.Common.{◌≡◌, ℕ, ◌+◌, ◌-◌, ◌≤◌, min, Option, List, [], ◌∷◌, ◌++◌, length, length-append, append-nil}
+use Rattle.std.proofs.Common.{◌≡◌, ℕ, ◌+◌, ◌-◌, ◌<◌, ◌≤◌, min, Option, List, [], ◌∷◌, ◌++◌, length, length-append, append-nil}
 use Rattle.std.proofs.Common.{append_assoc, refl, sym, ap, ◌∙◌, subst, arith}
 use Rattle.std.proofs.Math.Nat.{min-le_left}
 use Rattle.iofd_words.specs.Pages.{offset_of}
@@ -38,25 +38,27 @@ module _ {A : Type 0} {g : CoreGhosts A} (IsPiece : ℕ → Standing A g → Pie
   -- one that begins where the others end
   follow_more : (address left : ℕ) (p : Standing A g) (pieces : List (Piece A g)) (piece : Piece A g) (at rest : ℕ)
       → Follow IsPiece address left p pieces → at ≡ address + length (bytes_of pieces)
-      → rest ≡ left - length (bytes_of pieces) → length piece.bytes ≡ piece_len at rest
+      → rest ≡ left - length (bytes_of pieces) → 0 < rest → length piece.bytes ≡ piece_len at rest
       → SamePass (standing_after p pieces).pass piece.after.pass → IsPiece at (standing_after p pieces) piece
       → Follow IsPiece address left p (pieces ++ piece ∷ [])
-  follow_more address left p [] piece at rest follow there less len same is =
+  follow_more address left p [] piece at rest follow there less some len same is =
       let here : at ≡ address = omega (arith, there) in
       let all : rest ≡ left = omega (arith, less) in (
+        omega (arith, some, all),
         len ∙ (λ i. piece_len (here i) (all i)),
         same,
         subst (λ (n : ℕ). IsPiece n p piece) here is,
         tt,
       )
-  follow_more address left p (x ∷ xs) piece at rest follow there less len same is =
+  follow_more address left p (x ∷ xs) piece at rest follow there less some len same is =
       let more : length (x.bytes ++ bytes_of xs) ≡ length x.bytes + length (bytes_of xs) =
       length-append x.bytes (bytes_of xs) in (
         follow.0,
         follow.1,
         follow.2,
-        follow_more (address + length x.bytes) (left - length x.bytes) x.after xs piece at rest follow.3
-            (omega (arith, there, more)) (omega (arith, less, more)) len same is,
+        follow.3,
+        follow_more (address + length x.bytes) (left - length x.bytes) x.after xs piece at rest follow.4
+            (omega (arith, there, more)) (omega (arith, less, more)) some len same is,
       )
 
   pub none_passed : (address left : ℕ) (p : Standing A g) → HavePassed IsPiece address left p [] 0 p
@@ -70,11 +72,11 @@ module _ {A : Type 0} {g : CoreGhosts A} (IsPiece : ℕ → Standing A g → Pie
   }
 
   pub one_passed : (address left done : ℕ) (p q : Standing A g) (pieces : List (Piece A g)) (piece : Piece A g)
-      → HavePassed IsPiece address left p pieces done q
+      → HavePassed IsPiece address left p pieces done q → done < left
       → length piece.bytes ≡ piece_len (address + done) (left - done) → SamePass q.pass piece.after.pass
       → IsPiece (address + done) (standing_after p pieces) piece
       → HavePassed IsPiece address left p (pieces ++ piece ∷ []) (done + length piece.bytes) piece.after
-  one_passed address left done p q pieces piece passed len same is =
+  one_passed address left done p q pieces piece passed less len same is =
       let count = passed.count in
       let within = passed.within in
       let few : length piece.bytes ≤ left - done = subst (λ (n : ℕ). n ≤ left - done) (sym len)
@@ -84,7 +86,7 @@ module _ {A : Type 0} {g : CoreGhosts A} (IsPiece : ℕ → Standing A g → Pie
       let last : standing_after p (pieces ++ piece ∷ []) ≡ piece.after = standing_more p pieces piece in
       record {
         follow = follow_more address left p pieces piece (address + done) (left - done) passed.follow
-            (omega (arith, count)) (omega (arith, count)) len
+            (omega (arith, count)) (omega (arith, count)) (omega (arith, less)) len
             (same_then (standing_after p pieces).pass q.pass piece.after.pass passed.same same) is;
         count = ap length (bytes_more pieces piece)
             ∙ (more ∙ ap (λ n. n + length piece.bytes) count);

@@ -112,12 +112,12 @@ module _ {A : Type 0} {g : CoreGhosts A} (settings : Settings) (device : DeviceN
 
   -- one piece more
   pub one_read : (of : DeviceNo × ℕ) (done len k : ℕ) (p q : Standing A g) (buffer bytes : List ℕ)
-      → of ≡ (device, most) → HasRead settings device most address old first done p buffer
+      → of ≡ (device, most) → HasRead settings device most address old first done p buffer → done < length buffer
       → length bytes ≡ length (mid_of done k buffer) → len ≡ piece_len (address + done) (length buffer - done) → k ≡ len
       → SamePass p.pass q.pass
       → IsReadSo settings of.0 of.1 (address + done) (length (mid_of done k buffer)) p (answer.Read bytes) q
       → HasRead settings device most address old first (done + len) q (put_mid done k buffer bytes)
-  one_read of done len k p q buffer bytes its has part fits same_len same read =
+  one_read of done len k p q buffer bytes its has less part fits same_len same read =
       let long = same_length done p buffer has in
       let few : k ≤ length buffer - done = subst (λ (n : ℕ). n ≤ length buffer - done) (sym (same_len ∙ fits))
       (piece_few (address + done) (length buffer - done)) in
@@ -127,7 +127,7 @@ module _ {A : Type 0} {g : CoreGhosts A} (settings : Settings) (device : DeviceN
       let passed : HavePassed (IsReadPiece settings device most) address (length old) first (pieces ++ piece ∷ [])
       (done + length bytes) q =
       one_passed (IsReadPiece settings device most) address (length old) done first p pieces piece has.passed
-      (count ∙ (fits ∙ ap (λ n. piece_len (address + done) (n - done)) long)) same record {
+      (subst (λ (n : ℕ). done < n) long less) (count ∙ (fits ∙ ap (λ n. piece_len (address + done) (n - done)) long)) same record {
         read = read_sooner settings device most (address + done) (length bytes) (standing_after first pieces) p
             (answer.Read bytes) q has.passed.sees has.passed.keeps
             (subst (λ (c : (DeviceNo × ℕ) × ℕ). IsReadSo settings c.0.0 c.0.1 (address + done) c.1 p (answer.Read bytes) q)

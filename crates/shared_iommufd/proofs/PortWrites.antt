@@ -137,11 +137,11 @@ module _ {A : Type 0} {g : CoreGhosts A} (settings : Settings) (device : DeviceN
 
   -- one piece more
   pub one_written : (of : DeviceNo × ℕ) (done len k : ℕ) (p q : Standing A g) (before last : Option ℕ) (frame : FrameNo)
-      → of ≡ (device, most) → HasWritten settings device most address bytes first done p before
+      → of ≡ (device, most) → HasWritten settings device most address bytes first done p before → done < length bytes
       → len ≡ piece_len (address + done) (length bytes - done) → k ≡ len → SamePass p.pass q.pass
       → IsWrittenSo settings of.0 of.1 (address + done) (take k (drop done bytes)) p (reply.Passed frame) last q
       → HasWritten settings device most address bytes first (done + len) q last
-  one_written of done len k p q before last frame its has fits same_len same written_so =
+  one_written of done len k p q before last frame its has less fits same_len same written_so =
       let pieces = has.pieces in
       let part = take len (drop done bytes) in
       let piece : Piece A g = record { bytes = part; at = last; after = q } in
@@ -154,7 +154,7 @@ module _ {A : Type 0} {g : CoreGhosts A} (settings : Settings) (device : DeviceN
       let count : length part ≡ len = length-take-le len (drop done bytes) (omega (arith, few, rest)) in
       let passed : HavePassed (IsWrittenPiece settings device most) address (length bytes) first (pieces ++ piece ∷ [])
       (done + length part) q =
-      one_passed (IsWrittenPiece settings device most) address (length bytes) done first p pieces piece has.passed
+      one_passed (IsWrittenPiece settings device most) address (length bytes) done first p pieces piece has.passed less
       (count ∙ fits) same record {
         frame = frame;
         written = written_sooner settings device most (address + done) part (standing_after first pieces) p

@@ -138,11 +138,17 @@ abbrev pub RefusesLook : {E : Type 0} → ℕ → View E → View E → TryError
 RefusesLook lane v w (tried.NotNow refused) = RefusesRead v w lane refused
 RefusesLook lane v w (tried.Call no_memory) = OnlySees v w × MetNone v w
 
--- a command isn't carried out by a call of this lane, where so many lanes are: nothing was made
-abbrev pub RefusesCommand : {E : Type 0} → ℕ → ℕ → View E → View E → TryError NoMemory → Type 0
-RefusesCommand lanes lane v w error = RefusesCommit lanes v w error ⊎ RefusesLook lane v w error
+-- What a command asks for isn't carried out by a call of this lane, where so many lanes are, and nothing was made: an
+-- event is refused as a commit is, a question as a look is.
+abbrev pub RefusesAsked : {A E : Type 0} → ℕ → ℕ → Asked A → View E → View E → TryError NoMemory → Type 0
+RefusesAsked lanes lane (asks.Event e) v w error = RefusesCommit lanes v w error
+RefusesAsked lanes lane (asks.Ranges request) v w error = RefusesLook lane v w error
+RefusesAsked lanes lane (asks.Dirty request) v w error = RefusesLook lane v w error
 
--- the same of a call of ioctl, whose bytes spell a command: no cause refuses them
-abbrev pub RefusesIoctl : {E : Type 0} → ℕ → List ℕ → ℕ → ℕ → View E → View E → TryError NoMemory → Type 0
-RefusesIoctl number bytes lanes lane v w error =
-    (codec.refusal number bytes ≡ None) × RefusesCommand lanes lane v w error
+-- A call of ioctl of the file isn't carried out: no cause refuses its bytes, they spell a command, and what this asks for
+-- isn't carried out.
+abbrev pub RefusesIoctl : (A : Type 0) → {E : Type 0} → FileNo → ℕ → List ℕ → ℕ → ℕ → View E → View E
+    → TryError NoMemory → Type 0
+RefusesIoctl A file number bytes lanes lane v w error =
+    (codec.refusal number bytes ≡ None)
+    × ((command : Command A) × Spells number bytes command × RefusesAsked lanes lane (asked file command) v w error)

@@ -3,6 +3,7 @@ pub mod GivenBack
 pub mod Ioctls
 pub mod Limits
 pub mod Made
+pub mod Met
 pub mod Pieces
 pub mod PortReads
 pub mod PortTranslations

@@ -1,5 +1,5 @@
 -- A port reads or writes many bytes in pieces, each of which a device may read or write at once.
-use Rattle.std.specs.Prelude.{◌≡◌, ℕ, ◌+◌, ◌-◌, ◌≤◌, min, Option, List, [], ◌∷◌, ◌++◌, length}
+use Rattle.std.specs.Prelude.{◌≡◌, ℕ, ◌+◌, ◌-◌, ◌<◌, ◌≤◌, min, Option, List, [], ◌∷◌, ◌++◌, length}
 use Rattle.iofd_words.specs.Pages.{offset_of}
 use Rattle.lane_lock.specs.Outcomes.{OnlySees}
 use Rattle.lane_lock.specs.Passes.{SamePass, view_of}
@@ -34,11 +34,13 @@ module _ {A : Type 0} {g : CoreGhosts A} where
   last_place place (piece ∷ pieces) = last_place piece.at pieces
 
   -- These pieces, of so many bytes from the address on, have passed one after another: each begins where the one before
-  -- it ends, has as many bytes as a piece has there, and is such a piece, as the one before left the port.
+  -- it ends, while there are bytes left, has as many bytes as a piece has there, and is such a piece, as the one before
+  -- left the port.
   abbrev pub Follow : (ℕ → Standing A g → Piece A g → Type 0) → ℕ → ℕ → Standing A g → List (Piece A g) → Type 0
   Follow IsPiece address left p [] = Unit {0}
   Follow IsPiece address left p (piece ∷ pieces) =
-      (length piece.bytes ≡ piece_len address left)
+      (0 < left)
+      × (length piece.bytes ≡ piece_len address left)
       × SamePass p.pass piece.after.pass
       × IsPiece address p piece
       × Follow IsPiece (address + length piece.bytes) (left - length piece.bytes) piece.after pieces

@@ -39,6 +39,7 @@ impl<A: Allocator + Copy> Port<A> {
     ghost use Rattle.iofd_words.specs.Pages.{crosses};
     ghost use Rattle.lane_lock.specs.Outcomes.{MetNone, OnlySees};
     ghost use Rattle.lane_lock.specs.Passes.{view_of};
+    ghost use Rattle.shared_iommufd.specs.Met.{MetAsTold};
     ghost use Rattle.shared_iommufd.specs.Ports.{IsPortOf, SamePort, most_of, standing_of};
     ghost use Rattle.shared_iommufd.specs.PortReads.{DeniesRead, IsReadSo, Reads, ReadsOn, as_tried};
     ghost use Rattle.shared_iommufd.specs.Servers.{settings_of};
@@ -103,6 +104,7 @@ impl<A: Allocator + Copy> Port<A> {
         ensures owned { IsPortOf server.now self.new }
         ensures sees { OnlySees (view_of self.old.pass) (view_of self.new.pass) }
         ensures met { IfOk result (λ _. MetNone (view_of self.old.pass) (view_of self.new.pass)) }
+        ensures told { IfErr result (λ e. MetAsTold (view_of self.old.pass) (view_of self.new.pass) e.cause) }
         ensures reads { Reads (settings_of server.now) self.old.device (most_of self.old) iova.0 buffer.old
             (standing_of self.old) result (standing_of self.new) buffer.new }
         ensures last { self.new.last ≡ None }
@@ -127,6 +129,7 @@ impl<A: Allocator + Copy> Port<A> {
         ensures owned { IsPortOf server.now self.new }
         ensures sees { OnlySees (view_of self.old.pass) (view_of self.new.pass) }
         ensures met { IfOk result (λ _. MetNone (view_of self.old.pass) (view_of self.new.pass)) }
+        ensures told { IfErr result (λ e. MetAsTold (view_of self.old.pass) (view_of self.new.pass) e.cause) }
         ensures reads { ReadsOn (settings_of server.now) self.old.device (most_of self.old) iova.0
             (standing_of self.old) done buffer.old result (standing_of self.new) buffer.new }
         ensures last { self.new.last ≡ self.old.last }
@@ -159,6 +162,7 @@ impl<A: Allocator + Copy> Port<A> {
         ensures owned { IsPortOf server.now self.new }
         ensures sees { OnlySees (view_of self.old.pass) (view_of self.new.pass) }
         ensures met { IfOk result (λ _. MetNone (view_of self.old.pass) (view_of self.new.pass)) }
+        ensures told { IfErr result (MetAsTold (view_of self.old.pass) (view_of self.new.pass)) }
         ensures read { IfOk result (λ _. IsReadSo (settings_of server.now) self.old.device (most_of self.old) address
             (length piece.old) (standing_of self.old) (Answer.Read piece.new) (standing_of self.new)) }
         ensures low { IfOk result (λ _. address < 2 ^ 57) }
@@ -184,6 +188,8 @@ impl<A: Allocator + Copy> Port<A> {
         ensures owned { IsPortOf server.now self.new }
         ensures sees { OnlySees (view_of self.old.pass) (view_of self.new.pass) }
         ensures met { IfOk result (λ _. MetNone (view_of self.old.pass) (view_of self.new.pass)) }
+        ensures told { IfErr result (λ refused. MetAsTold {C = PortCause} (view_of self.old.pass) (view_of self.new.pass)
+            (TryError.NotNow refused)) }
         ensures answered { IfOk result (λ told. IsReadSo (settings_of server.now) self.old.device (most_of self.old)
             iova.0 len (standing_of self.old) told (standing_of self.new)) }
         ensures refused { IfErr result (λ refused. DeniesRead (settings_of server.now) self.old.device

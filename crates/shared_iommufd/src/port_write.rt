@@ -18,6 +18,7 @@ impl<A: Allocator + Copy> Port<A> {
     ghost use Rattle.lane_lock.specs.Outcomes.{MetNone};
     ghost use Rattle.lane_lock.specs.Passes.{lanes_of, view_of};
     ghost use Rattle.guarded_core.specs.Guarded.{RefusesCommit};
+    ghost use Rattle.shared_iommufd.specs.Met.{MetAsTold};
     ghost use Rattle.shared_iommufd.specs.Ports.{IsPortOf, KeepsSame, SamePort, most_of, standing_of};
     ghost use Rattle.shared_iommufd.specs.PortReads.{as_tried};
     ghost use Rattle.shared_iommufd.specs.PortWrites.{DeniesWrite, IsWrittenSo, Writes, WritesOn};
@@ -79,6 +80,7 @@ impl<A: Allocator + Copy> Port<A> {
         ensures same_port { SamePort self.old self.new }
         ensures owned { IsPortOf server.now self.new }
         ensures met { IfOk result (λ _. MetNone (view_of self.old.pass) (view_of self.new.pass)) }
+        ensures told { IfErr result (λ e. MetAsTold (view_of self.old.pass) (view_of self.new.pass) e.cause) }
         ensures writes { Writes (settings_of server.now) (lanes_of server.now.lock) self.old.device (most_of self.old)
             iova.0 bytes.now (standing_of self.old) result (standing_of self.new) self.new.last }
         ensures idle { length bytes.now ≡ 0 → standing_of self.new ≡ standing_of self.old }
@@ -101,6 +103,7 @@ impl<A: Allocator + Copy> Port<A> {
         ensures same_port { SamePort self.old self.new }
         ensures owned { IsPortOf server.now self.new }
         ensures met { IfOk result (λ _. MetNone (view_of self.old.pass) (view_of self.new.pass)) }
+        ensures told { IfErr result (λ e. MetAsTold (view_of self.old.pass) (view_of self.new.pass) e.cause) }
         ensures writes { WritesOn (settings_of server.now) (lanes_of server.now.lock) self.old.device
             (most_of self.old) iova.0 bytes.now (standing_of self.old) done self.old.last result
             (standing_of self.new) self.new.last }
@@ -133,6 +136,7 @@ impl<A: Allocator + Copy> Port<A> {
         ensures same_port { SamePort self.old self.new }
         ensures owned { IsPortOf server.now self.new }
         ensures met { IfOk result (λ _. MetNone (view_of self.old.pass) (view_of self.new.pass)) }
+        ensures told { IfErr result (MetAsTold (view_of self.old.pass) (view_of self.new.pass)) }
         ensures written { IfOk result (λ _. (frame : FrameNo) × IsWrittenSo (settings_of server.now) self.old.device
             (most_of self.old) address bytes.now (standing_of self.old) (Reply.Passed frame) self.new.last
             (standing_of self.new)) }
@@ -171,6 +175,7 @@ impl<A: Allocator + Copy> Port<A> {
         ensures same_port { SamePort self.old self.new }
         ensures owned { IsPortOf server.now self.new }
         ensures met { IfOk result (λ _. MetNone (view_of self.old.pass) (view_of self.new.pass)) }
+        ensures told { IfErr result (MetAsTold (view_of self.old.pass) (view_of self.new.pass)) }
         ensures written { IfOk result (λ stamp. IsWrittenSo (settings_of server.now) self.old.device (most_of self.old)
             iova.0 bytes (standing_of self.old) stamp.reply (Some stamp.at) (standing_of self.new)) }
         ensures refused { IfErr result (RefusesCommit (lanes_of server.now.lock) (view_of self.old.pass)

@@ -2,10 +2,9 @@
 //! explains, and the journal audits as a run.
 
 ghost use Rattle.std.specs.Prelude.{◌≡◌, false, IfOk, IfSome, None};
-ghost use Rattle.lane_lock.specs.Passes.{OwnsAll};
 ghost use Rattle.guarded_core.specs.OfPort.{event_of_port};
 ghost use Rattle.shared_iommufd.specs.Ports.{IsKeyOf, IsPortOf};
-ghost use Rattle.shared_iommufd.specs.Servers.{IsPassOf};
+ghost use Rattle.shared_iommufd.specs.Servers.{ArePassesOf, IsPassOf};
 ghost use Rattle.device_threads.specs.Workers.{AllBack, AllCanRun};
 ghost use Rattle.test_device_threads.specs.Keys.{AreKeys};
 
@@ -29,7 +28,7 @@ const ROUNDS: u32 = 200;
 
 // Holds no job up.
 #[derive(Clone, Copy)]
-struct Open;
+pub(crate) struct Open;
 
 impl Gate for Open {
     fn enter(&self, _device: DeviceNo, _job: u32) {}
@@ -108,10 +107,10 @@ fn ninth<A: Allocator + Copy>(
     passes: &mut Vec<Pass<A>>,
     keys: &mut Vec<PortKey<A>>,
 ) -> Option<(PortKey<A>, Pass<A>, Pass<A>)>
-    requires passes { OwnsAll server.now.lock passes.old.items }
+    requires passes { ArePassesOf server.now passes.old.items }
     requires keys { AreKeys server.now keys.old.items }
     ensures taken { IfSome result (λ r. IsKeyOf server.now r.0 × IsPassOf server.now r.1 × IsPassOf server.now r.2) }
-    ensures passes { OwnsAll server.now.lock passes.new.items }
+    ensures passes { ArePassesOf server.now passes.new.items }
     ensures keys { AreKeys server.now keys.new.items }
 {
     match (
@@ -130,8 +129,8 @@ fn put_last<A: Allocator + Copy>(
     passes: &mut Vec<Pass<A>>,
     pass: Pass<A>,
 ) -> bool
-    requires { OwnsAll server.now.lock passes.old.items × IsPassOf server.now pass }
-    ensures { OwnsAll server.now.lock passes.new.items }
+    requires { ArePassesOf server.now passes.old.items × IsPassOf server.now pass }
+    ensures { ArePassesOf server.now passes.new.items }
 {
     let _ = server;
     passes.push(pass).is_ok()
@@ -165,8 +164,8 @@ fn taken_apart<A: Allocator + Copy>(
     passes: &mut Vec<Pass<A>>,
 ) -> Vec<Vec<JobResult>>
     requires back { AllBack server.now finished.items }
-    requires passes { OwnsAll server.now.lock passes.old.items }
-    ensures { OwnsAll server.now.lock passes.new.items }
+    requires passes { ArePassesOf server.now passes.old.items }
+    ensures { ArePassesOf server.now passes.new.items }
 {
     let mut all = Vec::new(alloc);
     for _ in 0..DEVICES {
@@ -225,7 +224,7 @@ fn ends_well(
     seed: u32,
     all: &[Vec<JobResult>],
 ) -> bool
-    requires { OwnsAll server.lock passes.items }
+    requires { ArePassesOf server passes.items }
 {
     match server.close(passes) {
         Ok(core) => explains(&core, seed, all) && audits(alloc, config, &core),
@@ -243,7 +242,7 @@ fn is_explained(
     seed: u32,
     finished: Vec<Finished>,
 ) -> bool
-    requires passes { OwnsAll server.lock passes.items }
+    requires passes { ArePassesOf server passes.items }
     requires owned { IsPassOf server ninth.0 × IsPortOf server ninth.1 }
     requires back { AllBack server finished.items }
 {

@@ -1,5 +1,6 @@
 //! Tests of devices at work: two in threads of their own, that wait for each other; eight with many jobs while a ninth
-//! thread maps, unmaps and flushes, whose journals are audited. (One that never flushes is a script of tests/ports.)
+//! thread maps, unmaps and flushes, whose journals are audited; and runs, which `tests/growth` makes with growths
+//! refused. (One that never flushes is a script of tests/ports.)
 #![tactic(auto)]
 
 #[cfg(test)]
@@ -10,5 +11,7 @@ mod checks;
 mod meeting;
 #[cfg(test)]
 mod opened;
+#[cfg(test)]
+mod refused_growths;
 #[cfg(test)]
 mod tasks;

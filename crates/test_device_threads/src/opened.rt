@@ -1,10 +1,9 @@
 //! Servers with devices that are bound and have a page, and workers for them.
 
 ghost use Rattle.std.specs.Prelude.{◌≡◌, false, IfSome, None};
-ghost use Rattle.lane_lock.specs.Passes.{OwnsAll};
 ghost use Rattle.guarded_core.specs.OfPort.{event_of_port};
 ghost use Rattle.shared_iommufd.specs.Ports.{IsKeyOf};
-ghost use Rattle.shared_iommufd.specs.Servers.{IsPassOf};
+ghost use Rattle.shared_iommufd.specs.Servers.{ArePassesOf, IsPassOf};
 ghost use Rattle.device_threads.specs.Workers.{AllCanRun, CanRun};
 ghost use Rattle.test_device_threads.specs.Keys.{AreKeys};
 
@@ -107,9 +106,9 @@ pub(crate) fn last_pass<A: Allocator + Copy>(
     server: &Server<A>,
     passes: &mut Vec<Pass<A>>,
 ) -> Option<Pass<A>>
-    requires { OwnsAll server.now.lock passes.old.items }
+    requires { ArePassesOf server.now passes.old.items }
     ensures taken { IfSome result (IsPassOf server.now) }
-    ensures left { OwnsAll server.now.lock passes.new.items }
+    ensures left { ArePassesOf server.now passes.new.items }
 {
     let _ = server;
     passes.pop()
@@ -147,7 +146,7 @@ fn worker<A: Allocator + Copy>(
 }
 
 // Puts the worker behind the others, if there is memory.
-fn add<A: Allocator + Copy>(
+pub(crate) fn add<A: Allocator + Copy>(
     server: &Server<A>,
     workers: &mut Vec<Worker<A>>,
     worker: Worker<A>,
@@ -169,9 +168,9 @@ pub(crate) fn workers<A: Allocator + Copy>(
     count: u32,
 ) -> Vec<Worker<A>>
     requires keys { AreKeys server.now keys.old.items }
-    requires passes { OwnsAll server.now.lock passes.old.items }
+    requires passes { ArePassesOf server.now passes.old.items }
     ensures can { AllCanRun server.now result.items }
-    ensures passes { OwnsAll server.now.lock passes.new.items }
+    ensures passes { ArePassesOf server.now passes.new.items }
 {
     let mut workers = Vec::new(alloc);
     for _ in 0..256u16 {
@@ -188,7 +187,7 @@ pub(crate) fn workers<A: Allocator + Copy>(
 
 // A server with its passes and the keys of its devices.
 pub(crate) fn server(alloc: Global, config: &Config) -> Option<(Server, Vec<Pass>, Vec<PortKey>)>
-    ensures { IfSome result (λ r. OwnsAll r.0.lock r.1.items × AreKeys r.0 r.2.items) }
+    ensures { IfSome result (λ r. ArePassesOf r.0 r.1.items × AreKeys r.0 r.2.items) }
 {
     match Server::new(alloc, alloc, config, 4, 2) {
         Ok((server, passes, keys)) => Some((server, passes, keys)),

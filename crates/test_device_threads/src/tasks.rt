@@ -54,7 +54,8 @@ pub(crate) fn own(device: DeviceNo) -> Iova {
     Iova(0x1000 + 64 * u64::from(device.0 & 0x3f))
 }
 
-fn job(alloc: Global, device: DeviceNo, task: Task, number: u32) -> Option<Job> {
+// The device's job of this number, which does the task, if there is memory.
+pub(crate) fn job(alloc: Global, device: DeviceNo, task: Task, number: u32) -> Option<Job> {
     match task {
         Task::Attach => Some(Job::Attach(SPACE)),
         Task::Detach => Some(Job::Detach),

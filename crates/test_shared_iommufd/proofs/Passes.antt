@@ -1,6 +1,6 @@
 -- What holds of each pass of a list holds of each when one is taken off its end or put there.
 use Rattle.std.proofs.Common.{◌≡◌, ℕ, ⊎_elim, Bool, true, false, cond, List, [], ◌∷◌, ◌++◌, length, slice_get}
-use Rattle.std.proofs.Common.{Option, Some, None, IfSome, Result, Ok, Err, IfOk, append-nil, refl, ◌∙◌, subst}
+use Rattle.std.proofs.Common.{Option, Some, None, IfSome, append-nil, refl, ◌∙◌, subst}
 use Rattle.std.specs.Option.{option_to_list}
 use Rattle.lane_lock.proofs.PassLists.{either_at, front_at, last_at}
 

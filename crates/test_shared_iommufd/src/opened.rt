@@ -1,12 +1,11 @@
 //! Servers of the tests, and the lists of their passes.
 
 ghost use Rattle.std.specs.Prelude.{IfSome};
-ghost use Rattle.lane_lock.specs.Passes.{OwnsAll};
 ghost use Rattle.shared_iommufd.specs.Ports.{AllKeys, IsKeyOf};
-ghost use Rattle.shared_iommufd.specs.Servers.{IsPassOf};
+ghost use Rattle.shared_iommufd.specs.Servers.{ArePassesOf, IsPassOf};
 
 use iofd_words::{Config, DeviceConfig, SourceId, SpanList, UserNo, Width};
-use shared_iommufd::{Pass, PortKey, Server};
+use shared_iommufd::{CloseError, Core, Pass, PortKey, Server};
 use std::alloc::Global;
 
 // One x86 device of 39 bits, which keeps no other addresses for itself.
@@ -49,7 +48,7 @@ fn first_key(server: &Server, keys: &mut Vec<PortKey>) -> Option<PortKey>
 }
 
 fn opened_with(global: Global, config: &Config) -> Option<(Server, PortKey, Vec<Pass>)>
-    ensures { IfSome result (λ r. IsKeyOf r.0 r.1 × OwnsAll r.0.lock r.2.items) }
+    ensures { IfSome result (λ r. IsKeyOf r.0 r.1 × ArePassesOf r.0 r.2.items) }
 {
     match Server::new(global, global, config, 2, 1) {
         Ok((server, passes, mut keys)) => match first_key(&server, &mut keys) {
@@ -62,7 +61,7 @@ fn opened_with(global: Global, config: &Config) -> Option<(Server, PortKey, Vec<
 
 /// A server with two lanes, whose ports keep one page, with the key of its device and so many passes.
 pub fn opened(global: Global, passes: u16) -> Option<(Server, PortKey, Vec<Pass>)>
-    ensures { IfSome result (λ r. IsKeyOf r.0 r.1 × OwnsAll r.0.lock r.2.items) }
+    ensures { IfSome result (λ r. IsKeyOf r.0 r.1 × ArePassesOf r.0 r.2.items) }
 {
     match config(global, passes) {
         Some(config) => opened_with(global, &config),
@@ -72,9 +71,9 @@ pub fn opened(global: Global, passes: u16) -> Option<(Server, PortKey, Vec<Pass>
 
 /// The last of the passes.
 pub fn last_pass(server: &Server, passes: &mut Vec<Pass>) -> Option<Pass>
-    requires { OwnsAll server.now.lock passes.old.items }
+    requires { ArePassesOf server.now passes.old.items }
     ensures taken { IfSome result (IsPassOf server.now) }
-    ensures left { OwnsAll server.now.lock passes.new.items }
+    ensures left { ArePassesOf server.now passes.new.items }
 {
     let _ = server;
     passes.pop()
@@ -82,9 +81,16 @@ pub fn last_pass(server: &Server, passes: &mut Vec<Pass>) -> Option<Pass>
 
 /// Puts the pass behind the others, if there is memory.
 pub fn put_last(server: &Server, passes: &mut Vec<Pass>, pass: Pass) -> bool
-    requires { OwnsAll server.now.lock passes.old.items × IsPassOf server.now pass }
-    ensures { OwnsAll server.now.lock passes.new.items }
+    requires { ArePassesOf server.now passes.old.items × IsPassOf server.now pass }
+    ensures { ArePassesOf server.now passes.new.items }
 {
     let _ = server;
     passes.push(pass).is_ok()
+}
+
+/// Ends the server.
+pub fn closed(server: Server, passes: Vec<Pass>) -> Result<Core, CloseError>
+    requires { ArePassesOf server passes.items }
+{
+    server.close(passes)
 }

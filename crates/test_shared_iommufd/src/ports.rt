@@ -1,11 +1,10 @@
 //! A device's port beside another pass: pieces, and a page that the port keeps.
 
-ghost use Rattle.lane_lock.specs.Passes.{OwnsAll};
 ghost use Rattle.shared_iommufd.specs.Ports.{IsKeyOf, IsPortOf};
-ghost use Rattle.shared_iommufd.specs.Servers.{IsPassOf};
+ghost use Rattle.shared_iommufd.specs.Servers.{ArePassesOf, IsPassOf};
 
 use crate::journals::audited;
-use crate::opened::{last_pass, opened, put_last};
+use crate::opened::{closed, last_pass, opened, put_last};
 use crate::rows::are_rows;
 use iofd_words::{
     AccessKind, DeviceNo, Event, Fault, FaultReason, FrameNo, Iova, NoMemory, ObjId, PassNo, Query,
@@ -143,21 +142,8 @@ fn pass_in_pieces<R: Wait>(rt: &R, server: &Server, port: &mut Port) -> bool
         && buffer == MANY
 }
 
-// Whether a page that is kept is read, written and translated while an UNMAP waits for the device.
-fn keeps<R: Wait>(rt: &R, global: Global, server: &Server, port: &mut Port, pass: &mut Pass) -> bool
-    requires { IsPortOf server.now port.old × IsPassOf server.now pass.old }
-    ensures { IsPortOf server.now port.new × IsPassOf server.now pass.new }
-{
-    reads(rt, server, port, 0xa5)
-        && are_rows(rt, global, server, pass, PENDING)
-        && reads(rt, server, port, 0xa5)
-        && port.write(rt, server, PAGE, &[0xc8]) == Ok(())
-        && is_translated(rt, server, port, AccessKind::Write)
-        && are_rows(rt, global, server, pass, "0 uread 1 10000 1 = ok c8")
-}
-
-// Whether a port that is new keeps nothing, while the device goes on owing the flush.
-fn forgets<R: Wait>(
+// Whether a page that is kept is read while an UNMAP waits for the device.
+fn keeps_reading<R: Wait>(
     rt: &R,
     global: Global,
     server: &Server,
@@ -166,6 +152,35 @@ fn forgets<R: Wait>(
 ) -> bool
     requires { IsPortOf server.now port.old × IsPassOf server.now pass.old }
     ensures { IsPortOf server.now port.new × IsPassOf server.now pass.new }
+{
+    reads(rt, server, port, 0xa5)
+        && are_rows(rt, global, server, pass, PENDING)
+        && reads(rt, server, port, 0xa5)
+}
+
+// Whether it is written and translated then.
+fn keeps_writing<R: Wait>(rt: &R, server: &Server, port: &mut Port) -> bool
+    requires { IsPortOf server.now port.old }
+    ensures { IsPortOf server.now port.new }
+{
+    port.write(rt, server, PAGE, &[0xc8]) == Ok(())
+        && is_translated(rt, server, port, AccessKind::Write)
+}
+
+// Whether all this is so.
+fn keeps<R: Wait>(rt: &R, global: Global, server: &Server, port: &mut Port, pass: &mut Pass) -> bool
+    requires { IsPortOf server.now port.old × IsPassOf server.now pass.old }
+    ensures { IsPortOf server.now port.new × IsPassOf server.now pass.new }
+{
+    keeps_reading(rt, global, server, port, pass)
+        && keeps_writing(rt, server, port)
+        && are_rows(rt, global, server, pass, "0 uread 1 10000 1 = ok c8")
+}
+
+// Whether a port that is new keeps nothing.
+fn keeps_nothing<R: Wait>(rt: &R, server: &Server, port: &mut Port) -> bool
+    requires { IsPortOf server.now port.old }
+    ensures { IsPortOf server.now port.new }
 {
     is_denied(
         port.read(rt, server, PAGE, &mut [0]),
@@ -178,6 +193,20 @@ fn forgets<R: Wait>(
         1,
         FaultReason::WriteDenied,
     ) && port.translate(rt, server, PAGE, AccessKind::Read) == None
+}
+
+// Whether the device goes on owing the flush meanwhile.
+fn forgets<R: Wait>(
+    rt: &R,
+    global: Global,
+    server: &Server,
+    port: &mut Port,
+    pass: &mut Pass,
+) -> bool
+    requires { IsPortOf server.now port.old × IsPassOf server.now pass.old }
+    ensures { IsPortOf server.now port.new × IsPassOf server.now pass.new }
+{
+    keeps_nothing(rt, server, port)
         && are_rows(rt, global, server, pass, PENDING)
         && is_answered(port.flush(rt, server), Reply::Done)
         && are_rows(rt, global, server, pass, UNMAPPED)
@@ -222,8 +251,8 @@ fn lends_port<R: Wait>(
     passes: &mut Vec<Pass>,
 ) -> Option<u64>
     requires { IsKeyOf server.now key × IsPassOf server.now own × IsPassOf server.now pass
-        × OwnsAll server.now.lock passes.old.items }
-    ensures { OwnsAll server.now.lock passes.new.items }
+        × ArePassesOf server.now passes.old.items }
+    ensures { ArePassesOf server.now passes.new.items }
 {
     let mut port = server.port(key, own);
     let served = is_served(rt, global, server, &mut port, &mut pass);
@@ -247,8 +276,8 @@ fn lends<R: Wait>(
     key: PortKey,
     passes: &mut Vec<Pass>,
 ) -> Option<u64>
-    requires { IsKeyOf server.now key × OwnsAll server.now.lock passes.old.items }
-    ensures { OwnsAll server.now.lock passes.new.items }
+    requires { IsKeyOf server.now key × ArePassesOf server.now passes.old.items }
+    ensures { ArePassesOf server.now passes.new.items }
 {
     match (last_pass(server, passes), last_pass(server, passes)) {
         (Some(own), Some(pass)) => lends_port(rt, global, server, key, own, pass, passes),
@@ -296,7 +325,7 @@ fn holds<R: Wait>(rt: &R, global: Global) -> bool {
     match opened(global, 2) {
         Some((server, key, mut passes)) => {
             let count = lends(rt, global, &server, key, &mut passes);
-            ends(server.close(passes), count)
+            ends(closed(server, passes), count)
         }
         None => false,
     }

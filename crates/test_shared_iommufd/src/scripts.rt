@@ -1,9 +1,9 @@
 //! Scripts worked by hand, through the one pass of a server.
 
-ghost use Rattle.lane_lock.specs.Passes.{OwnsAll};
+ghost use Rattle.shared_iommufd.specs.Servers.{ArePassesOf};
 
 use crate::journals::audited;
-use crate::opened::{last_pass, opened, put_last};
+use crate::opened::{closed, last_pass, opened, put_last};
 use crate::rows::{are_rows, row_of};
 use ioctl_codec::{decode, encode};
 use iommufd_script::Step;
@@ -79,7 +79,7 @@ static CANONICAL: [&str; 4] = [
 ];
 
 // Others.
-static OTHERS: [&str; 4] = [
+static OTHERS: [&str; 5] = [
     "\
 1 ioctl 1 3b81 10000000000000000000000000000000 = 0 0c0000000000000001000000
 0 ioctl 1 3b81 10000000000000000000000001000000 = 7 Tail
@@ -105,6 +105,20 @@ static OTHERS: [&str; 4] = [
 0 ioctl 1 3b99 0800000002000000 = 25 Number
 0 ioctl 1 3b80 08000000020000 = 22 Short
 0 ioctl 1 3b80 090000000200000001 = 7 Tail
+",
+    // An area is mapped, copied and unmapped, and the address space of the copy bounded.
+    "\
+1 ioctl 1 3b81 0c0000000000000000000000 = 0 0c0000000000000001000000
+1 ioctl 1 3b81 0c0000000000000000000000 = 0 0c0000000000000002000000
+1 umap 1 10000 = ok frame 0
+1 umap 1 11000 = ok frame 1
+1 ioctl 1 3b85 28000000070000000100000000000000000001000000000000200000000000000010000000000000 \
+= 0 28000000070000000100000000000000000001000000000000200000000000000010000000000000
+1 ioctl 1 3b83 28000000070000000200000001000000002000000000000000100000000000000010000000000000 \
+= 0 28000000070000000200000001000000002000000000000000100000000000000010000000000000
+1 ioctl 1 3b86 180000000100000000100000000000000020000000000000 = 0 180000000100000000100000000000000020000000000000
+1 ioctl 1 3b82 1800000002000000010000000000000000000000000000000000000000000000ffffff0000000000 \
+= 0 180000000200000001000000000000000000000000000000
 ",
 ];
 
@@ -150,8 +164,8 @@ fn lends<R: Wait>(
     passes: &mut Vec<Pass>,
     rows: &str,
 ) -> Option<u64>
-    requires { OwnsAll server.now.lock passes.old.items }
-    ensures { OwnsAll server.now.lock passes.new.items }
+    requires { ArePassesOf server.now passes.old.items }
+    ensures { ArePassesOf server.now passes.new.items }
 {
     let Some(mut pass) = last_pass(server, passes) else {
         return None;
@@ -174,7 +188,7 @@ fn are_told<R: Wait>(rt: &R, global: Global, rows: &str) -> bool {
     match opened(global, 1) {
         Some((server, _key, mut passes)) => {
             let count = lends(rt, global, &server, &mut passes, rows);
-            ends(server.close(passes), count)
+            ends(closed(server, passes), count)
         }
         None => false,
     }

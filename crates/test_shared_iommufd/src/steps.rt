@@ -5,11 +5,15 @@ ghost use Rattle.guarded_core.specs.OfPort.{event_of_port, query_of_port};
 ghost use Rattle.shared_iommufd.specs.Servers.{IsPassOf};
 
 use crate::lines::{tells_answer, tells_ioctl, tells_notices, tells_stamp};
-use iofd_words::{Act, Event, FileNo, Query};
+use crate::rows::count_records;
+use iofd_words::{Act, Event, FileNo, NoMemory, Query};
 use iommufd_script::{HexBytes, Step};
-use shared_iommufd::{Pass, Server};
+use shared_iommufd::{IoctlAnswer, Pass, Server};
 use std::alloc::Global;
 use std::sync::Wait;
+
+// While a block of so many bytes is held, `tests/growth` may refuse a growth.
+const WATCHED: usize = 54321;
 
 // The event of a step, if it is one of those in the scripts.
 fn event_of(step: &Step<'_>) -> Option<Event>
@@ -53,7 +57,27 @@ fn query_of(step: &Step<'_>) -> Option<Query>
     }
 }
 
-// Whether the ioctl that these digits spell has this line.
+// An ioctl, to which a growth may be refused.
+fn watched<R: Wait>(
+    rt: &R,
+    global: Global,
+    server: &Server,
+    pass: &mut Pass,
+    file: FileNo,
+    number: u32,
+    bytes: &[u8],
+) -> Option<Result<IoctlAnswer, NoMemory>>
+    requires { IsPassOf server.now pass.old }
+    ensures { IsPassOf server.now pass.new }
+{
+    match Vec::<u8>::with_capacity(global, WATCHED) {
+        Ok(_block) => Some(server.ioctl(rt, pass, file, number, bytes)),
+        Err(_) => None,
+    }
+}
+
+// Whether the ioctl that these digits spell has this line, where so many records were made before. One that was refused
+// a growth makes no record, and has it when it is made again at once.
 fn is_ioctl<R: Wait>(
     rt: &R,
     global: Global,
@@ -63,6 +87,7 @@ fn is_ioctl<R: Wait>(
     number: u32,
     spelt: &HexBytes<'_>,
     line: &[u8],
+    before: u64,
 ) -> bool
     requires { IsPassOf server.now pass.old }
     ensures { IsPassOf server.now pass.new }
@@ -70,9 +95,16 @@ fn is_ioctl<R: Wait>(
     let Ok(bytes) = spelt.to_vec(global) else {
         return false;
     };
-    match server.ioctl(rt, pass, file, number, &bytes) {
-        Ok(answer) => tells_ioctl(global, line, &answer),
-        Err(_) => false,
+    let mut told = watched(rt, global, server, pass, file, number, &bytes);
+    if let Some(Err(NoMemory)) = told {
+        if count_records(rt, server, pass) != before {
+            return false;
+        }
+        told = Some(server.ioctl(rt, pass, file, number, &bytes));
+    }
+    match told {
+        Some(Ok(answer)) => tells_ioctl(global, line, &answer),
+        _ => false,
     }
 }
 
@@ -130,7 +162,9 @@ pub fn is_answered<R: Wait>(
 {
     match step {
         Step::Ioctl(file, number, bytes) => {
-            is_ioctl(rt, global, server, pass, *file, *number, bytes, line)
+            is_ioctl(
+                rt, global, server, pass, *file, *number, bytes, line, before,
+            )
         }
         Step::Notices(file, access) => {
             tells_notices(global, line, &server.notices(rt, pass, *file, *access))

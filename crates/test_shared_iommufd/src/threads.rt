@@ -1,11 +1,10 @@
 //! Four passes in threads of their own make each record once.
 
 ghost use Rattle.std.specs.Prelude.{◌≡◌, false};
-ghost use Rattle.lane_lock.specs.Passes.{OwnsAll};
 ghost use Rattle.guarded_core.specs.OfPort.{event_of_port};
-ghost use Rattle.shared_iommufd.specs.Servers.{IsPassOf};
+ghost use Rattle.shared_iommufd.specs.Servers.{ArePassesOf, IsPassOf};
 
-use crate::opened::opened;
+use crate::opened::{closed, opened};
 use crate::rows::count_records;
 use iofd_words::{Act, Event, PassNo, Record, UserNo};
 use shared_iommufd::{CloseError, Core, Pass, Server};
@@ -51,8 +50,8 @@ fn work<R: Wait>(rt: &R, server: &Server, pass: &mut Pass)
 
 // The passes work at once, in four threads.
 fn four_work<R: Threads + Wait + Sync>(rt: &R, server: &Server, passes: &mut [Pass])
-    requires { OwnsAll server.now.lock passes.old }
-    ensures { OwnsAll server.now.lock passes.new }
+    requires { ArePassesOf server.now passes.old }
+    ensures { ArePassesOf server.now passes.new }
 {
     for_each_mut(
         rt,
@@ -67,8 +66,8 @@ fn four_work<R: Threads + Wait + Sync>(rt: &R, server: &Server, passes: &mut [Pa
 
 // The same, of a list.
 fn all_work<R: Threads + Wait + Sync>(rt: &R, server: &Server, passes: &mut Vec<Pass>)
-    requires { OwnsAll server.now.lock passes.old.items }
-    ensures { OwnsAll server.now.lock passes.new.items }
+    requires { ArePassesOf server.now passes.old.items }
+    ensures { ArePassesOf server.now passes.new.items }
 {
     four_work(rt, server, passes);
 }
@@ -117,7 +116,7 @@ fn happens<R: Threads + Wait + Sync>(rt: &R, global: Global) -> bool {
     match opened(global, 4) {
         Some((server, _key, mut passes)) => {
             all_work(rt, &server, &mut passes);
-            ends(server.close(passes))
+            ends(closed(server, passes))
         }
         None => false,
     }

@@ -19,6 +19,6 @@ returns c =
           does.served;
       met = does.met;
       refused = subst (λ (s : Server Global). IfErr c.try_ioctl.result
-          (RefusesIoctl a.number a.bytes.now (lanes_of s.lock) (lane_of pass) (view_of pass) (view_of after)))
+          (RefusesIoctl Global a.file a.number a.bytes.now (lanes_of s.lock) (lane_of pass) (view_of pass) (view_of after)))
           c.deref.ensures does.refused;
     }

@@ -17,5 +17,6 @@ returns c =
       reads = subst (λ (s : Server Global). Reads (settings_of s) p.device (most_of p) a.iova.0 a.buffer.now
           (standing_of p) t.result (standing_of t.new.self) t.new.buffer) c.deref.ensures t.ensures.reads;
       met = t.ensures.met;
+      told = t.ensures.told;
       last = refl;
     }

@@ -22,4 +22,5 @@ returns c =
           a.iova.0 a.bytes.now (standing_of p) t.result (standing_of t.new.self) last) (sym c.last-last.ensures)
           written;
       met = t.ensures.met;
+      told = t.ensures.told;
     }

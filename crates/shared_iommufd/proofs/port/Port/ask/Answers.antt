@@ -1,6 +1,9 @@
+use Rattle.lane_lock.specs.Passes.{lane_of, view_of}
 use Rattle.shared_iommufd.specs.Ports.{most_of, standing_of, stands_so}
 use Rattle.shared_iommufd.specs.Servers.{settings_of}
+use Rattle.shared_iommufd.specs.declared.error.PortCause.{PortCause}
 use Rattle.shared_iommufd.proofs.Accessed.{keeps_read}
+use Rattle.shared_iommufd.proofs.MetLanes.{read_met}
 use Rattle.shared_iommufd.proofs.port.Port.ask.Goals as goal
 
 pub invariant_of-self : goal.invariant_of-self
@@ -17,3 +20,8 @@ invariant_of-self g c =
             leaves = c.keep.ensures.leaves;
           };
     }
+
+pub returns-in-Err-clause-told : goal.returns-in-Err-clause-told
+returns-in-Err-clause-told g c =
+    let pass = c.args.self.now.pass in
+    read_met PortCause (view_of pass) (view_of c.try_read_by.new.pass) (lane_of pass) c.in-Err.refused c.in-Err.ensures.refused

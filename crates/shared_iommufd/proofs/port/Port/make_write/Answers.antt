@@ -3,6 +3,7 @@ use Rattle.guarded_core.proofs.Kept.{keeps_later}
 use Rattle.shared_iommufd.specs.Ports.{most_of, standing_of}
 use Rattle.shared_iommufd.specs.Servers.{settings_of}
 use Rattle.shared_iommufd.proofs.Accessed.{keeps_written, refused_sees}
+use Rattle.shared_iommufd.proofs.MetLanes.{commit_met}
 use Rattle.shared_iommufd.proofs.port.Port.make_write.Goals as goal
 
 pub invariant_of-self : goal.invariant_of-self
@@ -23,3 +24,9 @@ invariant_of-self-in-Err-1 g c =
       kept = keeps_later a.self.now.device (view_of a.self.now.pass).seen (view_of c.try_write_by.new.pass).seen
           a.self.now.cache.turns a.self.now.cache.pages.entries sees.later a.self.now.kept;
     }
+
+pub returns-in-Err-clause-told : goal.returns-in-Err-clause-told
+returns-in-Err-clause-told g c =
+    let a = c.args in
+    commit_met (lanes_of a.server.now.lock) (view_of a.self.now.pass) (view_of c.try_write_by.new.pass) c.in-Err.error
+    c.in-Err.ensures.refused

@@ -5,6 +5,7 @@ use Rattle.lane_lock.proofs.Retries.{sees_then}
 use Rattle.shared_iommufd.specs.Ports.{most_of, standing_of}
 use Rattle.shared_iommufd.specs.Servers.{settings_of}
 use Rattle.shared_iommufd.proofs.PortReads.{all_read, one_read, read_stops}
+use Rattle.shared_iommufd.proofs.MetLanes.{met_then}
 use Rattle.shared_iommufd.proofs.SamePorts.{port_then}
 use Rattle.shared_iommufd.proofs.port.Port.read_on.Goals as goal
 
@@ -19,6 +20,13 @@ returns-in-Err-clause-reads g c = λ old first has.
     (loop.done + len - loop.done) (standing_of loop.self) (standing_of c.read_piece.new.self) loop.buffer c.read_piece.new.piece
     c.in-Err.cause (λ i. (loop.invariant.same.device i, loop.invariant.same.most i)) (loop.invariant.read old first has) c.loop-done-test.true e.kept
     c.piece_len-len.ensures.value (omega arith) e.same_port.pass e.denied
+
+pub returns-in-Err-clause-told : goal.returns-in-Err-clause-told
+returns-in-Err-clause-told g c =
+    let a = c.args in
+    let loop = c.loop-done in
+    met_then a.server.now a.self.now.pass loop.self.pass c.read_piece.new.self.pass c.in-Err.cause c.requires.owned.pass
+    loop.invariant.owned.pass loop.invariant.same.pass loop.invariant.met c.in-Err.ensures.told
 
 pub returns-in-Err-clause-idle : goal.returns-in-Err-clause-idle
 returns-in-Err-clause-idle g c = λ all. absurd (omega (arith, all))
@@ -51,7 +59,7 @@ loop-done-preserved g c =
           (loop.self.device, most_of loop.self) loop.done len part (standing_of loop.self)
           (standing_of c.read_piece.new.self) loop.buffer c.read_piece.new.piece
           (λ i. (inv.same.device i, inv.same.most i))
-          (inv.read old first has) (search rules) c.piece_len-len.ensures.value (omega arith) e.same_port.pass e.read;
+          (inv.read old first has) before (search rules) c.piece_len-len.ensures.value (omega arith) e.same_port.pass e.read;
       idle = λ all. absurd (omega (arith, all, long, inv.from, before));
     }
 
