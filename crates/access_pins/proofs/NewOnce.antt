@@ -1,6 +1,6 @@
 -- How many pages several runs have that aren't pinned, where each counts once: for the last run that has it.
 use Rattle.std.proofs.Common.{◌≡◌, ℕ, ◌+◌, ◌-◌, ◌^◌, ◌≤◌, ◌<◌, Bool, true, false, cond, ◌&&◌, ◌||◌, not, eqb, leb, ltb}
-use Rattle.std.proofs.Common.{List, [], ◌∷◌, length, Option, Some, None, refl, sym, ap, ◌∙◌, arith}
+use Rattle.std.proofs.Common.{List, [], ◌∷◌, length, suc, Option, Some, None, refl, sym, ap, ◌∙◌, arith}
 use Rattle.std.specs.List.{count_by, filter, list_all, range_with_len}
 use Rattle.std.specs.Prelude.{is_none}
 use Rattle.std.proofs.lemmas.Bool.{eqb-true}
@@ -342,3 +342,10 @@ module _ (m : Memory) where
       let more = area_more span all rest area steps run same in
       let most = count_by-le-length (is_in_none (runs_in span rest)) (new_in_runs m (run ∷ [])) in
       omega (arith, more, most)
+
+-- a step of an iterator leaves less
+pub shorter : (all rest : List Area) (area : Area) → all ≡ area ∷ rest → length rest < length all
+shorter all rest area is =
+    let longer : length (area ∷ rest) ≡ suc (length rest) = refl in
+    let same = ap (λ (l : List Area). length l) is in
+    omega (arith, longer, same)

@@ -1,7 +1,7 @@
 -- Lists of elements: read, written, and read one after the other, as a loop does.
 use Rattle.std.proofs.Common.{◌≡◌, ℕ, zero, suc, ◌+◌, ◌-◌, ◌*◌, ◌/◌, ◌≤◌, ◌<◌, List, [], ◌∷◌, ◌++◌, length, drop, ltb}
 use Rattle.std.proofs.Common.{Option, Result, Ok, Err, Some, None, refl, sym, ap, subst, ◌∙◌, append_assoc}
-use Rattle.std.proofs.Common.{append-nil, arith}
+use Rattle.std.proofs.Common.{IsErrAnd, append-nil, arith}
 use Rattle.std.proofs.lemmas.Bool.{ltb-false}
 use Rattle.std.proofs.lemmas.List.{length-drop}
 use Rattle.std.specs.Int.{Width, w32, w64, byte_len, from_le_bytes}
@@ -9,7 +9,8 @@ use Rattle.std.proofs.Common.{take}
 use Rattle.journal_audit_bytes.specs.Format.{ElementsFit, elements_spelled, spelled}
 use Rattle.journal_audit_bytes.specs.declared.spelled.ReadError.{ReadError}
 use Rattle.journal_audit_bytes.specs.declared.spelled.ReadError.TheVariants.{Memory, Torn}
-use Rattle.journal_audit_bytes.specs.Reading.{◌>>=◌, Fails, OnMemory, elements_at, fields_at, number_at}
+use Rattle.journal_audit_bytes.specs.Reading.{◌>>=◌, Fails, Gives, OnMemory, elements_at, fields_at}
+use Rattle.journal_audit_bytes.specs.Reading.{number_at}
 use Rattle.journal_audit_bytes.proofs.Fields.{AreWide, IsBytes, Takes, Takes-then, bind_some, fields_again}
 use Rattle.journal_audit_bytes.proofs.Fields.{fields_take, guard_none, some_is}
 
@@ -164,3 +165,14 @@ pub on_memory : {X : Type 0} {P : Type 0} (r : Result X ReadError) → P → OnM
 on_memory (Ok x) holds = tt
 on_memory (Err Torn) holds = tt
 on_memory (Err Memory) holds = holds
+
+-- an error of this kind is handed on
+pub passed_on : {X Y : Type 0} (view : X → Y) (r : Result X ReadError) (e : ReadError) (read : Option Y)
+    → IsErrAnd r (λ y. y ≡ e) → Fails e read → Gives view r read
+passed_on view (Ok x) e read is fails = absurd is
+passed_on view (Err y) e read is fails = subst (λ (x : ReadError). Fails x read) {x = e} {y = y} (sym is) fails
+
+-- memory was refused
+pub memory_ends : {X Y : Type 0} (view : X → Y) (r : Result X ReadError) (read : Option Y)
+    → IsErrAnd r (λ y. y ≡ Memory) → Gives view r read
+memory_ends view r read is = passed_on view r Memory read is tt

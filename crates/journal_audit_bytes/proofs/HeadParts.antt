@@ -267,7 +267,7 @@ device_reads version = record {
       let marked : List ℕ = to_le_bytes w8 (x86_number m.0.0) in
       let wide : List ℕ = to_le_bytes w8 (bits_of w.0.0) in
       subst (λ (y : DeviceSettings × List ℕ). Takes bytes (device_spelled y.0) y.1 × DeviceFits version y.0)
-      (some_is made x r.2) (
+      {x = made} {y = x} (some_is made x r.2) (
         Takes-then bytes (to_le_bytes w16 a.0.0) a.0.1 (wide ++ (marked ++ spans)) r.0.1 source.0
             (Takes-then a.0.1 wide w.0.1 (marked ++ spans) r.0.1 width.0
             (Takes-then w.0.1 marked m.0.1 spans r.0.1 x86.0 reserved.0)),

@@ -6,18 +6,20 @@ use Rattle.std.proofs.lemmas.List.{take-append-drop}
 use Rattle.std.proofs.lemmas.Slice.Eq.{bytes_eq-Decides}
 use Rattle.std.specs.Int.{w16, w32, to_le_bytes}
 use Rattle.iofd_words.specs.Limits.{first_outside, opened}
-use Rattle.iofd_words.specs.Settings.{Settings}
+use Rattle.iofd_words.specs.Settings.{DeviceSettings, Settings}
 use Rattle.iofd_words.specs.declared.config.ConfigError.{ConfigError}
+use Rattle.iofd_words.specs.declared.numbers.UserNo.{UserNo}
 use Rattle.journal_audit_bytes.specs.Head.{CountedFit, DeviceFits, LimitFits, SpellsHead, UserFits, counted}
 use Rattle.journal_audit_bytes.specs.Head.{device_spelled}
 use Rattle.journal_audit_bytes.specs.Head.{head_spelled, limit_spelled, user_spelled}
 use Rattle.journal_audit_bytes.specs.HeadReading.{behind_mark, counted_at, device_at, head_at, is_marked, limit_at}
 use Rattle.journal_audit_bytes.specs.HeadReading.{settings_if, user_at, version_at}
-use Rattle.journal_audit_bytes.specs.Reading.{◌>>=◌, Gives, number_at}
+use Rattle.journal_audit_bytes.specs.Reading.{◌>>=◌, Fails, Gives, number_at}
 use Rattle.journal_audit_bytes.specs.Version.{mark}
 use Rattle.journal_audit_bytes.specs.declared.version.Version.{Version}
 use Rattle.journal_audit_bytes.specs.declared.version.Version.TheVariants.{One, Two}
 use Rattle.journal_audit_bytes.specs.declared.spelled.ReadError.{ReadError}
+use Rattle.journal_audit_bytes.specs.declared.spelled.ReadError.TheVariants.{Memory, Torn}
 use Rattle.journal_audit_bytes.proofs.Fields.{IsBytes, IsBytes-drop, Takes, Takes-then, bind_some, number_again}
 use Rattle.journal_audit_bytes.proofs.Fields.{number_takes, some_is, wide16, wide32}
 use Rattle.journal_audit_bytes.proofs.HeadParts.{Reads, counted_reads, device_reads, limit_reads, user_reads}
@@ -72,6 +74,43 @@ devices_read : (version : Version) → Reads (counted_at (device_at version)) (�
     (λ xs. CountedFit (λ device. DeviceFits version device) xs)
 devices_read version =
     counted_reads (device_at version) device_spelled (λ device. DeviceFits version device) (device_reads version)
+
+-- the parts of a head that is read, and what they spell
+parts_take : (version : Version) (s : Settings) (bytes marked pool users files devices rest : List ℕ)
+    → IsBytes bytes → version_at bytes ≡ Some (version, marked) → number_at w32 marked ≡ Some (s.pool, pool)
+    → counted_at limit_at pool ≡ Some (s.users, users) → counted_at user_at users ≡ Some (s.files, files)
+    → counted_at (device_at version) files ≡ Some (s.devices, devices) → number_at w16 devices ≡ Some (s.passes, rest)
+    → first_outside s ≡ None → (text : List ℕ) × SpellsHead version s text × (bytes ≡ text ++ rest)
+parts_take version s bytes marked pool users files devices rest fits a b c d e f within =
+    let mark_part = version_takes bytes (version, marked) fits a in
+    let pool_part = number_takes w32 wide32 marked s.pool pool mark_part.rest_fits b in
+    let users_part = users_read.takes pool (s.users, users) pool_part.0.rest_fits c in
+    let files_part = files_read.takes users (s.files, files) users_part.0.rest_fits d in
+    let devices_part = (devices_read version).takes files (s.devices, devices) files_part.0.rest_fits e in
+    let passes_part = number_takes w16 wide16 devices s.passes rest devices_part.0.rest_fits f in
+    let five : List ℕ = to_le_bytes w16 s.passes in
+    let four : List ℕ = counted device_spelled s.devices ++ five in
+    let three : List ℕ = counted user_spelled s.files ++ four in
+    let two : List ℕ = counted limit_spelled s.users ++ three in
+    let one : List ℕ = to_le_bytes w32 s.pool ++ two in
+    let from_devices = Takes-then files (counted device_spelled s.devices) devices five rest devices_part.0
+    passes_part.0 in
+    let from_files = Takes-then users (counted user_spelled s.files) files four rest files_part.0 from_devices in
+    let from_users = Takes-then pool (counted limit_spelled s.users) users three rest users_part.0 from_files in
+    let from_pool = Takes-then marked (to_le_bytes w32 s.pool) pool two rest pool_part.0 from_users in
+    let whole = Takes-then bytes (mark version) marked one rest mark_part from_pool in (
+      head_spelled version s,
+      record {
+        within = within;
+        pool_fits = pool_part.1;
+        users_fit = users_part.1;
+        files_fit = files_part.1;
+        devices_fit = devices_part.1;
+        passes_fit = passes_part.1;
+        bytes_are = refl;
+      },
+      whole.parts,
+    )
 
 pub head_takes : (bytes : List ℕ) (x : Version × Settings × List ℕ) → IsBytes bytes → head_at bytes ≡ Some x
     → (text : List ℕ) × SpellsHead x.0 x.1 text × (bytes ≡ text ++ x.2)
@@ -139,38 +178,19 @@ head_takes bytes x fits is =
     } in
     let made : Version × Settings × List ℕ = (start.0.0, s, passes.0.1) in
     let g = guard_some (is_none (first_outside s)) made x passes.2 in
-    let mark_part = version_takes bytes start.0 fits start.1 in
-    let pool_part = number_takes w32 wide32 start.0.1 pool.0.0 pool.0.1 mark_part.rest_fits pool.1 in
-    let users_part = users_read.takes pool.0.1 users.0 pool_part.0.rest_fits users.1 in
-    let files_part = files_read.takes users.0.1 files.0 users_part.0.rest_fits files.1 in
-    let devices_part = (devices_read start.0.0).takes files.0.1 devices.0 files_part.0.rest_fits devices.1 in
-    let passes_part = number_takes w16 wide16 devices.0.1 passes.0.0 passes.0.1 devices_part.0.rest_fits passes.1 in
-    let five : List ℕ = to_le_bytes w16 s.passes in
-    let four : List ℕ = counted device_spelled s.devices ++ five in
-    let three : List ℕ = counted user_spelled s.files ++ four in
-    let two : List ℕ = counted limit_spelled s.users ++ three in
-    let one : List ℕ = to_le_bytes w32 s.pool ++ two in
-    let from_devices = Takes-then files.0.1 (counted device_spelled s.devices) devices.0.1 five passes.0.1
-    devices_part.0 passes_part.0 in
-    let from_files = Takes-then users.0.1 (counted user_spelled s.files) files.0.1 four passes.0.1 files_part.0
-    from_devices in
-    let from_users = Takes-then pool.0.1 (counted limit_spelled s.users) users.0.1 three passes.0.1 users_part.0
-    from_files in
-    let from_pool = Takes-then start.0.1 (to_le_bytes w32 s.pool) pool.0.1 two passes.0.1 pool_part.0 from_users in
-    let whole = Takes-then bytes (mark start.0.0) start.0.1 one passes.0.1 mark_part from_pool in
-    subst (λ (y : Version × Settings × List ℕ). (text : List ℕ) × SpellsHead y.0 y.1 text × (bytes ≡ text ++ y.2)) g.1 (
-      head_spelled start.0.0 s,
-      record {
-        within = none_is (first_outside s) g.0;
-        pool_fits = pool_part.1;
-        users_fit = users_part.1;
-        files_fit = files_part.1;
-        devices_fit = devices_part.1;
-        passes_fit = passes_part.1;
-        bytes_are = refl;
-      },
-      whole.parts,
-    )
+    subst (λ (y : Version × Settings × List ℕ). (text : List ℕ) × SpellsHead y.0 y.1 text × (bytes ≡ text ++ y.2))
+    {x = made} {y = x} g.1
+    (parts_take start.0.0 s bytes start.0.1 pool.0.1 users.0.1 files.0.1 devices.0.1 passes.0.1 fits start.1 pool.1
+    users.1 files.1 devices.1 passes.1 (none_is (first_outside s) g.0))
+
+-- the head, by its parts
+pub head_by : (version : Version) (s : Settings) (bytes marked pool users files devices passes : List ℕ)
+    → version_at bytes ≡ Some (version, marked) → number_at w32 marked ≡ Some (s.pool, pool)
+    → counted_at limit_at pool ≡ Some (s.users, users) → counted_at user_at users ≡ Some (s.files, files)
+    → counted_at (device_at version) files ≡ Some (s.devices, devices)
+    → number_at w16 devices ≡ Some (s.passes, passes) → head_at bytes ≡ settings_if version s passes
+unfolding head_at
+head_by version s bytes marked pool users files devices passes a b c d e f = rw (a, b, c, d, e, f) refl
 
 six : (a b c d e f rest : List ℕ)
     → (a ++ (b ++ (c ++ (d ++ (e ++ f))))) ++ rest ≡ a ++ (b ++ (c ++ (d ++ (e ++ (f ++ rest)))))
@@ -178,7 +198,7 @@ six a b c d e f rest = simp append_assoc
 
 pub head_again : (version : Version) (s : Settings) (text rest : List ℕ) → SpellsHead version s text
     → head_at (text ++ rest) ≡ Some (version, s, rest)
-unfolding head_at settings_if
+unfolding settings_if
 head_again version s text rest h =
     let passes : List ℕ = to_le_bytes w16 s.passes ++ rest in
     let devices : List ℕ = counted device_spelled s.devices ++ passes in
@@ -188,16 +208,12 @@ head_again version s text rest h =
     let grouped : text ++ rest ≡ mark version ++ pool = rw h.bytes_are (six (mark version) (to_le_bytes w32 s.pool)
     (counted limit_spelled s.users) (counted user_spelled s.files) (counted device_spelled s.devices)
     (to_le_bytes w16 s.passes) rest) in
-    ap head_at grouped
-    ∙ rw (
-      version_again version pool,
-      number_again w32 wide32 s.pool users h.pool_fits,
-      users_read.again s.users files h.users_fit,
-      files_read.again s.files devices h.files_fit,
-      (devices_read version).again s.devices passes h.devices_fit,
-      number_again w16 wide16 s.passes rest h.passes_fit,
-      h.within,
-    ) refl
+    head_by version s (text ++ rest) pool users files devices passes rest
+    (ap version_at grouped ∙ version_again version pool) (number_again w32 wide32 s.pool users h.pool_fits)
+    (users_read.again s.users files h.users_fit) (files_read.again s.files devices h.files_fit)
+    ((devices_read version).again s.devices passes h.devices_fit) (number_again w16 wide16 s.passes rest h.passes_fit)
+    ∙ ap (λ (o : Option ConfigError).
+    (let made : Option (Version × Settings × List ℕ) = cond (is_none o) (Some (version, s, rest)) None in made)) h.within
 
 -- what a reader answers
 pub head_found : {X : Type 0} (view : X → Version × Settings × List ℕ) (bytes : List ℕ) (r : Result X ReadError)
@@ -237,11 +253,50 @@ not_opened_if version s rest e is = by_case (first_outside s) is
     by_case None is = absurd cc
     by_case (Some e) is = refl
 
--- the head, by its parts
-pub head_by : (version : Version) (s : Settings) (bytes marked pool users files devices passes : List ℕ)
-    → version_at bytes ≡ Some (version, marked) → number_at w32 marked ≡ Some (s.pool, pool)
-    → counted_at limit_at pool ≡ Some (s.users, users) → counted_at user_at users ≡ Some (s.files, files)
-    → counted_at (device_at version) files ≡ Some (s.devices, devices)
-    → number_at w16 devices ≡ Some (s.passes, passes) → head_at bytes ≡ settings_if version s passes
+-- ---- a head that ends early
+
+pub ends_at_version : (e : ReadError) (bytes : List ℕ) → Fails e (version_at bytes) → Fails e (head_at bytes)
 unfolding head_at
-head_by version s bytes marked pool users files devices passes a b c d e f = rw (a, b, c, d, e, f) refl
+ends_at_version Memory bytes h = tt
+ends_at_version Torn bytes h = rw h refl
+
+pub ends_at_pool : (e : ReadError) (bytes : List ℕ) {version : Version} {marked : List ℕ}
+    → version_at bytes ≡ Some (version, marked)
+    → Fails e (number_at w32 marked) → Fails e (head_at bytes)
+unfolding head_at
+ends_at_pool Memory bytes a h = tt
+ends_at_pool Torn bytes a h = rw (a, h) refl
+
+pub ends_at_users : (e : ReadError) (bytes : List ℕ) {version : Version} {n : ℕ} {marked pool : List ℕ}
+    → version_at bytes ≡ Some (version, marked) → number_at w32 marked ≡ Some (n, pool)
+    → Fails e (counted_at limit_at pool) → Fails e (head_at bytes)
+unfolding head_at
+ends_at_users Memory bytes a b h = tt
+ends_at_users Torn bytes a b h = rw (a, b, h) refl
+
+pub ends_at_files : (e : ReadError) (bytes : List ℕ) {version : Version} {n : ℕ} {us : List ℕ}
+    {marked pool users : List ℕ}
+    → version_at bytes ≡ Some (version, marked) → number_at w32 marked ≡ Some (n, pool)
+    → counted_at limit_at pool ≡ Some (us, users) → Fails e (counted_at user_at users) → Fails e (head_at bytes)
+unfolding head_at
+ends_at_files Memory bytes a b c h = tt
+ends_at_files Torn bytes a b c h = rw (a, b, c, h) refl
+
+pub ends_at_devices : (e : ReadError) (bytes : List ℕ) {version : Version} {n : ℕ} {us : List ℕ} {fs : List UserNo}
+    {marked pool users files : List ℕ}
+    → version_at bytes ≡ Some (version, marked) → number_at w32 marked ≡ Some (n, pool)
+    → counted_at limit_at pool ≡ Some (us, users) → counted_at user_at users ≡ Some (fs, files)
+    → Fails e (counted_at (device_at version) files) → Fails e (head_at bytes)
+unfolding head_at
+ends_at_devices Memory bytes a b c d h = tt
+ends_at_devices Torn bytes a b c d h = rw (a, b, c, d, h) refl
+
+pub ends_at_passes : (e : ReadError) (bytes : List ℕ) {version : Version} {n : ℕ} {us : List ℕ} {fs : List UserNo}
+    {ds : List DeviceSettings} {marked pool users files devices : List ℕ}
+    → version_at bytes ≡ Some (version, marked) → number_at w32 marked ≡ Some (n, pool)
+    → counted_at limit_at pool ≡ Some (us, users) → counted_at user_at users ≡ Some (fs, files)
+    → counted_at (device_at version) files ≡ Some (ds, devices) → Fails e (number_at w16 devices)
+    → Fails e (head_at bytes)
+unfolding head_at
+ends_at_passes Memory bytes a b c d f h = tt
+ends_at_passes Torn bytes a b c d f h = rw (a, b, c, d, f, h) refl

@@ -102,3 +102,15 @@ module _ {X : Type 0} (one : List ℕ → Option (X × List ℕ)) where
       sym before
       ∙ ap (λ (m : ℕ). with_front front (many_at one m bytes)) k
       ∙ ap (λ (es : List X). Some (es, bytes)) (append-nil front)
+
+  pub starts : (front : List X) (count : ℕ) (bytes : List ℕ) → front ≡ []
+      → with_front front (many_at one (count - 0) bytes) ≡ many_at one count bytes
+  starts front count bytes none =
+      let all : count - 0 ≡ count = omega arith in
+      ap (λ (xs : List X). with_front xs (many_at one (count - 0) bytes)) none
+      ∙ ap (λ (m : ℕ). with_front [] (many_at one m bytes)) all
+      ∙ by_case (many_at one count bytes)
+    where
+      by_case : (o : Option (List X × List ℕ)) → with_front [] o ≡ o
+      by_case (Some x) = refl
+      by_case None = refl

@@ -295,7 +295,7 @@ module _ (rows : List Row) (wide : AllWide rows) where
       let text : List ℕ = to_le_bytes w8 r.0.tag ++ (spelled r.0.numbers n.0.0 ++ tail_spelled r.0.list l.0.0) in
       let tag_takes : Takes bytes (to_le_bytes w8 r.0.tag) a.0.1 =
       subst (λ (t : ℕ). Takes bytes (to_le_bytes w8 t) a.0.1) tag first.0 in
-      subst (λ (y : Tagged × List ℕ). IsTagged rows y.0 bytes y.1) g.1 (record {
+      subst (λ (y : Tagged × List ℕ). IsTagged rows y.0 bytes y.1) {x = made} {y = x} g.1 (record {
         text = text;
         spells = record {
           row = r.0;
@@ -304,7 +304,7 @@ module _ (rows : List Row) (wide : AllWide rows) where
           numbers_fit = second.1;
           list_fits = third.1;
           allowed = g.0;
-          bytes_are = refl;
+          bytes_are = refl {a = text};
         };
         takes = Takes-then bytes (to_le_bytes w8 r.0.tag) a.0.1
             (spelled r.0.numbers n.0.0 ++ tail_spelled r.0.list l.0.0) l.0.1 tag_takes
@@ -374,11 +374,12 @@ record_takes version passes bytes x fits is =
     let last = Takes-then a.0.1 taken t.0.1 given v.0.1 tt'.0 gt.0 in
     let behind = Takes-then e.0.1 at.text a.0.1 (taken ++ given) v.0.1 at.takes last in
     let later = Takes-then p.0.1 et.text e.0.1 (at.text ++ (taken ++ given)) v.0.1 et.takes behind in
+    let text : List ℕ = to_le_bytes w16 p.0.0 ++ (et.text ++ (at.text ++ (taken ++ given))) in
     let whole = Takes-then bytes (to_le_bytes w16 p.0.0) p.0.1 (et.text ++ (at.text ++ (taken ++ given))) v.0.1
     pt.0 later in
     subst (λ (y : Raw × List ℕ). (text : List ℕ) × Spells version passes y.0 text × (bytes ≡ text ++ y.1))
-    (some_is made x v.2) (
-      to_le_bytes w16 p.0.0 ++ (et.text ++ (at.text ++ (taken ++ given))),
+    {x = made} {y = x} (some_is made x v.2) (
+      text,
       record {
         pass = ltb-true _ _ g.0;
         pass_fits = pt.1;
@@ -388,7 +389,7 @@ record_takes version passes bytes x fits is =
         reply_is = at.spells;
         taken_fit = tt'.1;
         given_fit = gt.1;
-        bytes_are = refl;
+        bytes_are = refl {a = text};
       },
       whole.parts,
     )

@@ -2,8 +2,9 @@
 #![tactic(auto, unfolding(crate::specs::Reading::fields_of_tag, crate::specs::Reading::fields_of_row))]
 
 ghost use Rattle.std.specs.Prelude.{◌≡◌};
-ghost use Rattle.journal_audit_bytes.specs.Format.{event_rows};
-ghost use Rattle.journal_audit_bytes.specs.Reading.{Gives, fields_of_tag, tagged_event};
+ghost use Rattle.journal_audit_bytes.specs.Format.{event_rows, pin};
+ghost use Rattle.journal_audit_bytes.specs.Reading.{Gives, fields_of_row, fields_of_tag, pin_numbers, plainly};
+ghost use Rattle.journal_audit_bytes.specs.Reading.{tagged_event};
 
 use crate::lists::burst_at;
 use crate::numbers::{u8_at, u16_at, u32_at, u64_at};
@@ -124,8 +125,12 @@ pub fn access_detach_at<A: Allocator>(bytes: &[u8]) -> Result<(Event<A>, &[u8]),
     Ok((Event::AccessDetach(FileNo(file), ObjId(id)), rest))
 }
 
-pub fn access_pin_at<A: Allocator>(bytes: &[u8]) -> Result<(Event<A>, &[u8]), ReadError>
-    ensures { Gives (λ x. (tagged_event x.0, x.1.now)) result (fields_of_tag event_rows 0x0e bytes.now) }
+// What is pinned or unpinned, by which object of which file.
+fn pin_at(bytes: &[u8]) -> Result<(FileNo, ObjId, PinRequest, &[u8]), ReadError>
+    ensures pinned { Gives (λ x. (plainly 0x0e (pin_numbers x.0.0 x.1.0 x.2), x.3.now)) result
+        (fields_of_row (pin 0x0e) bytes.now) }
+    ensures unpinned { Gives (λ x. (plainly 0x0f (pin_numbers x.0.0 x.1.0 x.2), x.3.now)) result
+        (fields_of_row (pin 0x0f) bytes.now) }
 {
     let (file, rest) = u16_at(bytes)?;
     let (id, rest) = u32_at(rest)?;
@@ -141,27 +146,21 @@ pub fn access_pin_at<A: Allocator>(bytes: &[u8]) -> Result<(Event<A>, &[u8]), Re
         length,
         write,
     };
-    Ok((Event::AccessPin(FileNo(file), ObjId(id), request), rest))
+    Ok((FileNo(file), ObjId(id), request, rest))
+}
+
+pub fn access_pin_at<A: Allocator>(bytes: &[u8]) -> Result<(Event<A>, &[u8]), ReadError>
+    ensures { Gives (λ x. (tagged_event x.0, x.1.now)) result (fields_of_tag event_rows 0x0e bytes.now) }
+{
+    let (file, id, request, rest) = pin_at(bytes)?;
+    Ok((Event::AccessPin(file, id, request), rest))
 }
 
 pub fn access_unpin_at<A: Allocator>(bytes: &[u8]) -> Result<(Event<A>, &[u8]), ReadError>
     ensures { Gives (λ x. (tagged_event x.0, x.1.now)) result (fields_of_tag event_rows 0x0f bytes.now) }
 {
-    let (file, rest) = u16_at(bytes)?;
-    let (id, rest) = u32_at(rest)?;
-    let (iova, rest) = u64_at(rest)?;
-    let (length, rest) = u64_at(rest)?;
-    let (write, rest) = u8_at(rest)?;
-    if write > 1 {
-        return Err(ReadError::Torn);
-    }
-    let (iova, write) = (Iova(iova), write == 1);
-    let request = PinRequest {
-        iova,
-        length,
-        write,
-    };
-    Ok((Event::AccessUnpin(FileNo(file), ObjId(id), request), rest))
+    let (file, id, request, rest) = pin_at(bytes)?;
+    Ok((Event::AccessUnpin(file, id, request), rest))
 }
 
 pub fn access_write_at<A: Allocator>(bytes: &[u8]) -> Result<(Event<A>, &[u8]), ReadError>

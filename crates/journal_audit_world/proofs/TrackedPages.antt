@@ -1,8 +1,8 @@
 -- Marked pages, the newest last in a vector, and the newest first in the definitions' rows.
 use Rattle.std.proofs.Common.{◌≡◌, ℕ, Bool, true, false, ◌||◌, cond, not, eqb, List, [], ◌∷◌, ◌++◌, reverse, refl, sym}
-use Rattle.std.proofs.Common.{ap, ◌∙◌, append-nil}
+use Rattle.std.proofs.Common.{ap, ◌∙◌, ◌≤◌, append-nil, drop, length, map, take}
 use Rattle.std.proofs.lemmas.Grind.{reverse_onto}
-use Rattle.std.proofs.lemmas.List.{reverse-append}
+use Rattle.std.proofs.lemmas.List.{drop_all, length-map, reverse-append, take_all, take_at}
 use Rattle.std.proofs.lemmas.List.Elements.{filter-append}
 use Rattle.std.proofs.lemmas.List.Folds.{list_any-append}
 use Rattle.std.specs.List.{filter, list_any}
@@ -38,6 +38,19 @@ filter_reversed p (x ∷ xs) =
         → reverse (cond b (x ∷ filter p xs) (filter p xs)) ≡ filter p (reverse xs) ++ cond b (x ∷ []) []
     by_test true same = reverse_onto (filter p xs) x [] ∙ ap (λ (l : List _). l ++ x ∷ []) same
     by_test false same = same ∙ sym (append-nil (filter p (reverse xs)))
+
+-- each row changed in its place
+pub each_changed : {X : Type 0} (f : X → X) (xs zs ys : List X) (len i : ℕ) → zs ≡ xs → length zs ≡ len
+    → length zs ≤ i → ys ≡ map f (take i zs) ++ drop i zs → take len (ys ++ drop (length ys) xs) ≡ map f xs
+each_changed f xs zs ys len i same count past is =
+    let whole : ys ≡ map f zs =
+    is
+    ∙ ap (λ (l : List _). map f (take i zs) ++ l) (drop_all i zs past)
+    ∙ append-nil (map f (take i zs))
+    ∙ ap (λ (l : List _). map f l) (take_all i zs past) in
+    take_at ys (drop (length ys) xs) len (ap (λ (l : List _). length l) whole ∙ length-map zs f ∙ count)
+    ∙ whole
+    ∙ ap (λ (l : List _). map f l) same
 
 -- ---- a row
 

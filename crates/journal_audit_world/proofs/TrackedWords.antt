@@ -3,7 +3,7 @@ use Rattle.std.proofs.Common.{◌≡◌, ℕ, suc, ◌+◌, ◌/◌, ◌^◌, �
 use Rattle.std.proofs.Common.{List, [], ◌∷◌, length, get_or, drop, map, refl, sym, ap, ◌∙◌, arith}
 use Rattle.std.proofs.Math.Nat.{pow-le-pow_right, two-pow-succ}
 use Rattle.std.proofs.lemmas.Bool.{eqb-true}
-use Rattle.std.proofs.lemmas.List.{drop_more}
+use Rattle.std.proofs.lemmas.List.{drop_all, drop_more}
 use Rattle.std.proofs.lemmas.List.FromFn.{sum_by-map-range_with_len_more}
 use Rattle.std.specs.List.{list_any, range_with_len, sum}
 use Rattle.iofd_words.specs.Bounds.{Bounds}
@@ -77,6 +77,34 @@ table_more file hwpt span rows old new total i row within is more before n =
         both true = refl
         both false = refl
     tidy false false rest a = refl
+
+or_false : (b : Bool) → (b || false) ≡ b
+or_false true = refl
+or_false false = refl
+
+-- before the first row, and behind the last one
+pub table_none : (pages : List ℕ) (total : ℕ → Bool) (n : ℕ) → pages ≡ []
+    → (has_number pages n || total n) ≡ total n
+table_none pages total n none = ap (λ (ps : List ℕ). has_number ps n || total n) none
+
+pub no_more : (file : FileNo) (hwpt : ObjId) (span : Bounds) (rows : List TrackedTable) (old : List ℕ)
+    (total : ℕ → Bool) (i : ℕ) → length rows ≤ i
+    → ((n : ℕ) → (has_number old n || (is_marked (drop i rows) file hwpt n && is_page_of span n)) ≡ total n)
+    → (n : ℕ) → has_number old n ≡ total n
+no_more file hwpt span rows old total i past before n =
+    sym (or_false (has_number old n))
+    ∙ ap (λ (rs : List TrackedTable). has_number old n || (is_marked rs file hwpt n && is_page_of span n))
+    (sym (drop_all i rows past))
+    ∙ before n
+
+pub no_page_more : (span : Bounds) (pages old : List ℕ) (total : ℕ → Bool) (i : ℕ) → length pages ≤ i
+    → ((n : ℕ) → (has_number old n || (list_any (λ p. eqb p n) (drop i pages) && is_page_of span n)) ≡ total n)
+    → (n : ℕ) → has_number old n ≡ total n
+no_page_more span pages old total i past before n =
+    sym (or_false (has_number old n))
+    ∙ ap (λ (ps : List ℕ). has_number old n || (list_any (λ p. eqb p n) ps && is_page_of span n))
+    (sym (drop_all i pages past))
+    ∙ before n
 
 -- ---- the bits of a word
 

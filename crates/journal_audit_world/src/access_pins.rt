@@ -19,8 +19,7 @@ pub fn is_of_access(file: FileNo, access: ObjId, pin: &AccessPin) -> bool
 pub fn holds_pin(pins: &[AccessPin], file: FileNo, access: ObjId) -> bool
     ensures { result ≡ holds_pin pins.now file access }
 {
-    pins.iter()
-        .any(|pin| pin.file.0 == file.0 && pin.access.0 == access.0)
+    pins.iter().any(move |pin| pin.file.0 == file.0 && pin.access.0 == access.0)
 }
 
 /// Whether it holds as many as it may.
@@ -28,7 +27,7 @@ pub fn has_most_pins(pins: &[AccessPin], file: FileNo, access: ObjId) -> bool
     ensures { result ≡ has_most_pins pins.now file access }
 {
     pins.iter()
-        .filter(|pin| is_of_access(file, access, pin))
+        .filter(move |pin| is_of_access(file, access, pin))
         .count()
         >= 65535
 }
@@ -54,7 +53,8 @@ pub fn last_of(request: PinRequest) -> u128
 pub fn is_held(pins: &[AccessPin], file: FileNo, access: ObjId, request: PinRequest) -> bool
     ensures { result ≡ is_held pins.now (pin_of file access request) }
 {
-    pins.iter().any(|pin| is_asked(file, access, request, pin))
+    pins.iter()
+        .any(move |pin| is_asked(file, access, request, pin))
 }
 
 // What a pin is for: each for reads, and some for writes too.
@@ -77,7 +77,7 @@ pub fn is_covered(
 ) -> bool
     ensures { result ≡ is_covered pins.now file access address kind }
 {
-    pins.iter().any(|pin| {
+    pins.iter().any(move |pin| {
         is_of_access(file, access, pin) && (pin.span.holds(address) && allows(pin.write, kind))
     })
 }

@@ -21,7 +21,7 @@ pub fn meets(a: IovaRange, b: IovaRange) -> bool
 pub fn meets_some(ranges: &[IovaRange], range: IovaRange) -> bool
     ensures { result ≡ meets_some ranges.now range }
 {
-    ranges.iter().any(|one| meets(*one, range))
+    ranges.iter().any(move |one| meets(*one, range))
 }
 
 /// Whether each range begins below its last address, and no two have an address in common.
@@ -40,14 +40,14 @@ pub fn are_ranges(ranges: &[IovaRange]) -> bool
 pub fn remove_of<A: Allocator>(rows: &mut Vec<AllowedRow<A>, A>, file: FileNo, ioas: ObjId)
     ensures { rows.new.items ≡ without_allowed file ioas rows.old.items }
 {
-    rows.retain(|row| !(row.file.0 == file.0 && row.ioas.0 == ioas.0));
+    rows.retain(move |row| !(row.file.0 == file.0 && row.ioas.0 == ioas.0));
 }
 
 /// The ranges of the file go.
 pub fn remove_of_file<A: Allocator>(rows: &mut Vec<AllowedRow<A>, A>, file: FileNo)
     ensures { rows.new.items ≡ filter (λ row. not (row.file.0 == file.0)) rows.old.items }
 {
-    rows.retain(|row| !(row.file.0 == file.0));
+    rows.retain(move |row| !(row.file.0 == file.0));
 }
 
 /// The address space allows these now, in place of those before. Its only error is want of memory.

@@ -20,8 +20,8 @@ pub fn area_at(areas: &[Area], file: FileNo, ioas: ObjId, address: u64) -> Optio
 {
     areas
         .iter()
-        .filter(|area| is_of(file, ioas, area))
-        .find(|area| area.span.holds(address))
+        .filter(move |area| is_of(file, ioas, area))
+        .find(move |area| area.span.holds(address))
 }
 
 /// The device owes no area a flush any more.
@@ -46,12 +46,12 @@ fn pay_one(area: &mut Area, device: DeviceNo)
 pub fn remove_of<A: Allocator>(areas: &mut Vec<Area, A>, file: FileNo, ioas: ObjId)
     ensures { areas.new.items ≡ filter (λ area. not (is_of file ioas area)) areas.old.items }
 {
-    areas.retain(|area| !(area.file.0 == file.0 && area.ioas.0 == ioas.0));
+    areas.retain(move |area| !(area.file.0 == file.0 && area.ioas.0 == ioas.0));
 }
 
 /// The areas of the file go.
 pub fn remove_of_file<A: Allocator>(areas: &mut Vec<Area, A>, file: FileNo)
     ensures { areas.new.items ≡ filter (λ area. not (area.file.0 == file.0)) areas.old.items }
 {
-    areas.retain(|area| !(area.file.0 == file.0));
+    areas.retain(move |area| !(area.file.0 == file.0));
 }

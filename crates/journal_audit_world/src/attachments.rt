@@ -23,14 +23,15 @@ fn found(attachments: &[Attachment], device: DeviceNo) -> Option<&Attachment>
 {
     attachments
         .iter()
-        .find(|attachment| attachment.device.0 == device.0)
+        .find(move |attachment| attachment.device.0 == device.0)
 }
 
 /// Whether some device translates by this page table.
 pub fn has_device_on(attachments: &[Attachment], file: FileNo, hwpt: ObjId) -> bool
     ensures { result ≡ has_device_on attachments.now file hwpt }
 {
-    attachments.iter().any(|attachment| attachment.file.0 == file.0 && attachment.hwpt.0 == hwpt.0)
+    attachments.iter().any(move |attachment| attachment.file.0 == file.0
+        && attachment.hwpt.0 == hwpt.0)
 }
 
 /// The address space of a page table.
@@ -70,12 +71,12 @@ pub fn is_attached_to(objects: &[Object], file: FileNo, ioas: ObjId, attachment:
 pub fn remove<A: Allocator>(attachments: &mut Vec<Attachment, A>, device: DeviceNo)
     ensures { attachments.new.items ≡ without_attachment device attachments.old.items }
 {
-    attachments.retain(|attachment| !(attachment.device.0 == device.0));
+    attachments.retain(move |attachment| !(attachment.device.0 == device.0));
 }
 
 /// The attachments of the file go.
 pub fn remove_of_file<A: Allocator>(attachments: &mut Vec<Attachment, A>, file: FileNo)
     ensures { attachments.new.items ≡ filter (λ a. not (a.file.0 == file.0)) attachments.old.items }
 {
-    attachments.retain(|attachment| !(attachment.file.0 == file.0));
+    attachments.retain(move |attachment| !(attachment.file.0 == file.0));
 }

@@ -16,26 +16,26 @@ pub fn frame_at(pages: &[UserPage], user: UserNo, page: u64) -> Option<FrameNo>
 {
     let found = pages
         .iter()
-        .find(|other| other.user.0 == user.0 && other.page == page)?;
+        .find(move |other| other.user.0 == user.0 && other.page == page)?;
     Some(found.frame)
 }
 
 fn has_page(pages: &[UserPage], frame: u32) -> bool
     ensures { result ≡ list_any (λ p. p.frame.0 == frame) pages.now }
 {
-    pages.iter().any(|page| page.frame.0 == frame)
+    pages.iter().any(move |page| page.frame.0 == frame)
 }
 
 fn has_pin(pins: &[Pin], frame: u32) -> bool
     ensures { result ≡ list_any (λ pin. pin.frame.0 == frame) pins.now }
 {
-    pins.iter().any(|pin| pin.frame.0 == frame)
+    pins.iter().any(move |pin| pin.frame.0 == frame)
 }
 
 fn has_table(tables: &[TableFrame], frame: u32) -> bool
     ensures { result ≡ list_any (λ table. table.frame.0 == frame) tables.now }
 {
-    tables.iter().any(|table| table.frame.0 == frame)
+    tables.iter().any(move |table| table.frame.0 == frame)
 }
 
 /// Whether it is a frame of the pool that nobody reaches.
@@ -119,5 +119,5 @@ pub fn free_count(pool: u32, pages: &[UserPage], pins: &[Pin], tables: &[TableFr
 pub fn remove_page<A: Allocator>(pages: &mut Vec<UserPage, A>, user: UserNo, page: u64)
     ensures { pages.new.items ≡ without_page pages.old.items user page }
 {
-    pages.retain(|other| !(other.user.0 == user.0 && other.page == page));
+    pages.retain(move |other| !(other.user.0 == user.0 && other.page == page));
 }

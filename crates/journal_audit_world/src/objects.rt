@@ -110,9 +110,7 @@ pub fn is_access_to(ioas: ObjId, kind: ObjectKind) -> bool
 pub fn kind_of(objects: &[Object], file: FileNo, id: ObjId) -> Option<ObjectKind>
     ensures { result ≡ kind_of objects.now file id }
 {
-    let object = objects
-        .iter()
-        .find(|object| object.file.0 == file.0 && object.id.0 == id.0)?;
+    let object = objects.iter().find(move |object| object.file.0 == file.0 && object.id.0 == id.0)?;
     Some(object.kind)
 }
 
@@ -140,14 +138,14 @@ pub fn is_hwpt_under(objects: &[Object], file: FileNo, id: ObjId) -> bool
 pub fn has_hwpt(objects: &[Object], file: FileNo, ioas: ObjId) -> bool
     ensures { result ≡ has_hwpt objects.now file ioas }
 {
-    objects.iter().any(|object| object.file.0 == file.0 && is_hwpt_over(ioas, object.kind))
+    objects.iter().any(move |object| object.file.0 == file.0 && is_hwpt_over(ioas, object.kind))
 }
 
 /// Whether an access object is attached to the address space.
 pub fn has_access_to(objects: &[Object], file: FileNo, ioas: ObjId) -> bool
     ensures { result ≡ has_access_to objects.now file ioas }
 {
-    objects.iter().any(|object| object.file.0 == file.0 && is_access_to(ioas, object.kind))
+    objects.iter().any(move |object| object.file.0 == file.0 && is_access_to(ioas, object.kind))
 }
 
 /// Whether the file has an access object of this id.
@@ -183,7 +181,7 @@ fn bound_by(objects: &[Object], device: DeviceNo) -> Option<&Object>
 {
     objects
         .iter()
-        .find(|object| is_bound_as(device, object.kind))
+        .find(move |object| is_bound_as(device, object.kind))
 }
 
 /// Whether the file has as many objects as it may have.
@@ -199,7 +197,7 @@ fn count_of(objects: &[Object], file: FileNo) -> usize
 {
     objects
         .iter()
-        .filter(|object| object.file.0 == file.0)
+        .filter(move |object| object.file.0 == file.0)
         .count()
 }
 
@@ -245,14 +243,14 @@ pub fn add<A: Allocator>(objects: &mut Vec<Object, A>, object: Object) -> Result
 pub fn remove<A: Allocator>(objects: &mut Vec<Object, A>, file: FileNo, id: ObjId)
     ensures { objects.new.items ≡ without_object file id objects.old.items }
 {
-    objects.retain(|object| !(object.file.0 == file.0 && object.id.0 == id.0));
+    objects.retain(move |object| !(object.file.0 == file.0 && object.id.0 == id.0));
 }
 
 /// The objects of the file go.
 pub fn remove_of_file<A: Allocator>(objects: &mut Vec<Object, A>, file: FileNo)
     ensures { objects.new.items ≡ filter (λ object. not (object.file.0 == file.0)) objects.old.items }
 {
-    objects.retain(|object| !(object.file.0 == file.0));
+    objects.retain(move |object| !(object.file.0 == file.0));
 }
 
 /// The file's page table of this id goes, if it is an automatic one that no device uses.
@@ -265,7 +263,7 @@ pub fn remove_automatic<A: Allocator>(
     ensures { objects.new.items ≡ filter (λ object.
         not (is_object file id object && is_automatic object.kind && not is_used)) objects.old.items }
 {
-    objects.retain(|object| {
+    objects.retain(move |object| {
         !(object.file.0 == file.0 && object.id.0 == id.0 && is_automatic(object.kind) && !is_used)
     });
 }
@@ -274,7 +272,7 @@ pub fn remove_automatic<A: Allocator>(
 pub fn remove_device<A: Allocator>(objects: &mut Vec<Object, A>, file: FileNo, id: ObjId)
     ensures { objects.new.items ≡ without_device_object file id objects.old.items }
 {
-    objects.retain(|object| {
+    objects.retain(move |object| {
         !(object.file.0 == file.0 && object.id.0 == id.0 && is_bound_device(object.kind))
     });
 }

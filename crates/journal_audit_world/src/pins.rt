@@ -14,7 +14,7 @@ pub fn pinned_frame(pins: &[Pin], memory: u64, index: u64) -> Option<FrameNo>
 {
     let pin = pins
         .iter()
-        .find(|pin| pin.memory == memory && pin.index == index)?;
+        .find(move |pin| pin.memory == memory && pin.index == index)?;
     Some(pin.frame)
 }
 
@@ -51,7 +51,7 @@ fn is_accessed_by(
     ensures { result
         ≡ list_any (λ area. area.memory == memory && covers_page objects.now index pin.now area) areas.now }
 {
-    areas.iter().any(|area| area.memory == memory && covers_page(objects, index, pin, area))
+    areas.iter().any(move |area| area.memory == memory && covers_page(objects, index, pin, area))
 }
 
 /// Whether some access pin covers the page, in some area over its memory object.
@@ -64,7 +64,5 @@ pub fn is_accessed(
 ) -> bool
     ensures { result ≡ is_accessed objects.now areas.now access_pins.now (record { memory = memory; index = index }) }
 {
-    access_pins
-        .iter()
-        .any(|pin| is_accessed_by(objects, areas, pin, memory, index))
+    access_pins.iter().any(move |pin| is_accessed_by(objects, areas, pin, memory, index))
 }

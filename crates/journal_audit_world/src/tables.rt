@@ -10,7 +10,7 @@ use std::alloc::Allocator;
 pub fn is_among(frames: &[FrameNo], frame: FrameNo) -> bool
     ensures { result ≡ is_among frames.now frame }
 {
-    frames.iter().any(|other| other.0 == frame.0)
+    frames.iter().any(move |other| other.0 == frame.0)
 }
 
 /// Whether each frame is above those before it.
@@ -32,5 +32,5 @@ pub fn are_rising(frames: &[FrameNo]) -> bool
 pub fn give_back<A: Allocator>(tables: &mut Vec<TableFrame, A>, frames: &[FrameNo])
     ensures { tables.new.items ≡ kept_tables frames.now tables.old.items }
 {
-    tables.retain(|table| !is_among(frames, table.frame));
+    tables.retain(move |table| !is_among(frames, table.frame));
 }

@@ -44,21 +44,21 @@ pub fn is_tracked<A: Allocator>(rows: &[TrackedRow<A>], file: FileNo, hwpt: ObjI
     ensures { result ≡ tracks rows.now file hwpt }
 {
     rows.iter()
-        .any(|row| row.file.0 == file.0 && row.hwpt.0 == hwpt.0)
+        .any(move |row| row.file.0 == file.0 && row.hwpt.0 == hwpt.0)
 }
 
 /// The page table isn't tracked any more.
 pub fn stop<A: Allocator>(rows: &mut Vec<TrackedRow<A>, A>, file: FileNo, hwpt: ObjId)
     ensures { rows.new.items ≡ without_tracked file hwpt rows.old.items }
 {
-    rows.retain(|row| !(row.file.0 == file.0 && row.hwpt.0 == hwpt.0));
+    rows.retain(move |row| !(row.file.0 == file.0 && row.hwpt.0 == hwpt.0));
 }
 
 /// No page table of the file is.
 pub fn stop_file<A: Allocator>(rows: &mut Vec<TrackedRow<A>, A>, file: FileNo)
     ensures { rows.new.items ≡ filter (λ table. not (table.file.0 == file.0)) rows.old.items }
 {
-    rows.retain(|row| !(row.file.0 == file.0));
+    rows.retain(move |row| !(row.file.0 == file.0));
 }
 
 /// The page table is tracked from now on, or it isn't. No page of it is marked then. Its only error is want of memory.
@@ -134,7 +134,7 @@ fn clear_one<A: Allocator>(row: &mut TrackedRow<A>, file: FileNo, request: Dirty
     ensures { row.new ≡ without_pages file request.hwpt (reported_span request) row.old }
 {
     if is_of(file, request.hwpt, row) {
-        row.marked.retain(|page| !is_asked(request, *page));
+        row.marked.retain(move |page| !is_asked(request, *page));
     }
 }
 

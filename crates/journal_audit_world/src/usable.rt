@@ -60,14 +60,14 @@ fn end_beyond(objects: &[Object], file: FileNo, ioas: ObjId, ranges: &[IovaRange
 {
     objects
         .iter()
-        .any(|object| ends_in(file, ioas, *object, ranges))
+        .any(move |object| ends_in(file, ioas, *object, ranges))
 }
 
 // Whether some range ends beyond this one, if it is a page table of the address space.
 fn ends_in(file: FileNo, ioas: ObjId, object: Object, ranges: &[IovaRange]) -> bool
     ensures { result ≡ list_any (λ range. ends_in file ioas range object) ranges.now }
 {
-    ranges.iter().any(|range| {
+    ranges.iter().any(move |range| {
         object.file.0 == file.0 && is_hwpt_over(ioas, object.kind) && is_beyond(object.kind, *range)
     })
 }
@@ -101,7 +101,14 @@ fn are_kept<A: Allocator>(
         ≡ list_any (λ a. list_any (λ range. keeps_of config.now objects.now file ioas range a) ranges.now)
         attachments.now }
 {
-    attachments.iter().any(|attachment| keeps_of(config, objects, file, ioas, *attachment, ranges))
+    attachments.iter().any(move |attachment| keeps_of(
+        config,
+        objects,
+        file,
+        ioas,
+        *attachment,
+        ranges,
+    ))
 }
 
 // Whether this one's does.
@@ -116,7 +123,7 @@ fn keeps_of<A: Allocator>(
     ensures { result ≡ list_any (λ range. keeps_of config.now objects.now file ioas range attachment) ranges.now }
 {
     let is_attached = is_attached_to(objects, file, ioas, attachment);
-    ranges.iter().any(|range| is_attached && is_kept(config, attachment.device, *range))
+    ranges.iter().any(move |range| is_attached && is_kept(config, attachment.device, *range))
 }
 
 // Whether the device keeps an address of the range for itself.
@@ -141,5 +148,5 @@ fn is_kept_by<A: Allocator>(device: &DeviceConfig<A>, range: IovaRange) -> bool
 fn is_reserved(spans: &[Span], range: IovaRange) -> bool
     ensures { result ≡ meets_some spans.now range }
 {
-    spans.iter().any(|span| span.first() <= range.last && range.start <= span.last())
+    spans.iter().any(move |span| span.first() <= range.last && range.start <= span.last())
 }

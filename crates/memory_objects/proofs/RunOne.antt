@@ -46,6 +46,18 @@ lies_found run o x lies is =
     let here : leb (run.first + run.count) x.pages.pages.count ≡ true = subst (λ p. lies_within run p ≡ true) is lies in
     search (here, arith, nat_tests)
 
+pub lies_nowhere : (run : PageRun) (o : Option MemoryEntry) → lies_within run o ≡ true → o ≡ None → ⊥
+lies_nowhere run o lies is =
+    let none : false ≡ true = subst (λ p. lies_within run p ≡ true) is lies in
+    cc
+
+pub room_found : (run : PageRun) (o : Option MemoryEntry) (x : MemoryEntry) → passes (has_room_for run) o ≡ true
+    → o ≡ Some x → run_rows x.pages.pages run.first run.count ≤ x.pages.room
+room_found run o x room is =
+    let here : leb (run_rows x.pages.pages run.first run.count) x.pages.room ≡ true =
+    passes_found (has_room_for run) o x room is in
+    search (here, arith, nat_tests)
+
 -- ---- a list with one of its elements replaced
 
 map_set : {X Y : Type 0} (f : X → Y) (xs : List X) (p : ℕ) (x y : X) → slice_get xs p ≡ Some x → f y ≡ f x

@@ -1,10 +1,11 @@
 -- Entries over which an area lies, among entries of which some are gone.
 use Rattle.std.proofs.Common.{◌≡◌, ℕ, zero, suc, ◌+◌, ◌≤◌, Bool, true, false, cond, eqb, not, Some, None, List, [], ◌∷◌}
-use Rattle.std.proofs.Common.{◌++◌, ◌&&◌, ◌||◌, length, set, take, refl, sym, ap, subst, ◌∙◌, arith, ⊎_elim}
+use Rattle.std.proofs.Common.{◌++◌, ◌&&◌, ◌||◌, ◌<◌, get_or, length, set, take, refl, sym, ap, subst, ◌∙◌, arith, ⊎_elim}
 use Rattle.std.specs.List.{list_all, prefix_len, slice_get, sum_by}
 use Rattle.std.proofs.lemmas.Bool.{cases_Bool}
 use Rattle.std.proofs.lemmas.Bool.Decides.{nat_tests}
 use Rattle.std.proofs.lemmas.List.Sums.{sum_by-cons}
+use Rattle.std.proofs.lemmas.Option.{slice_get_read}
 use Rattle.memory_objects.specs.Objects.{MemoryEntry, are_rising, object_at, standing}
 use Rattle.memory_objects.proofs.Numbered.{none_after, rising_parts}
 use Rattle.memory_objects.proofs.OneObject.{rising_changed, set_by_number}
@@ -220,3 +221,13 @@ sum_standing f (o ∷ entries) =
     let first : sum_by f (standing (o ∷ entries)) ≡ f o + sum_by f (standing entries) = rw is those in
     first ∙ ap (λ k. f o + k) rest ∙ sym here)
     (cases_Bool (eqb o.areas 0))
+
+-- ---- the entry that is read at a place, and the object of a number that was found there
+
+pub read_at : (all : List MemoryEntry) (p : ℕ) (x : MemoryEntry) → p < length all → x ≡ get_or all p x
+    → slice_get all p ≡ Some x
+read_at all p x within is = slice_get_read all (length all) p x refl within is
+
+pub found_at : (all : List MemoryEntry) (p n : ℕ) (x : MemoryEntry) → p < length all → x ≡ get_or all p x
+    → slice_get all p ≡ object_at (standing all) n → object_at (standing all) n ≡ Some x
+found_at all p n x within is some = sym some ∙ read_at all p x within is

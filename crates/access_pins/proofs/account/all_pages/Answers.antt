@@ -1,7 +1,7 @@
 use Rattle.std.proofs.Common.{◌≡◌, ◌+◌, ◌∷◌, ◌∙◌, List, length, suc, ap, refl, sym, arith}
 use Rattle.std.specs.List.{list_all}
 use Rattle.access_pages.specs.Runs.{run_in, runs_in}
-use Rattle.access_pins.proofs.NewOnce.{area_most, first_lies, no_runs, run_few, run_most}
+use Rattle.access_pins.proofs.NewOnce.{area_most, first_lies, no_runs, run_few, run_most, shorter}
 use Rattle.iofd_rows.proofs.Bools.{and_true}
 use Rattle.iofd_words.specs.Span.{meets}
 use Rattle.iofd_words.specs.declared.rows.Area.{Area}
@@ -59,3 +59,13 @@ overflow_add-count g c =
     let wide = run_few c.args.memory.now c.run_in.result lies c.objects_told.ensures in
     let from = c.from-count.ensures in
     omega (arith, counts, many, few, wide, from)
+
+pub run_in-requires : goal.run_in-requires
+run_in-requires g c =
+    (and_true (meets c.in-Some.area.now.span c.args.span) (list_all (λ (a : Area). meets a.span c.args.span) c.next.new.self)
+    (ap (λ (l : List Area). list_all (λ (a : Area). meets a.span c.args.span) l) (sym c.in-Some.ensures.steps)
+    ∙ c.loop-area.invariant.met)).0
+
+pub loop-area-smaller : goal.loop-area-smaller
+loop-area-smaller g c =
+    shorter c.loop-area.area-iterator c.next.new.self c.in-Some.area.now c.in-Some.ensures.steps

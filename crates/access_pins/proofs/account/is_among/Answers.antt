@@ -1,6 +1,7 @@
 use Rattle.std.proofs.Common.{◌∙◌, ◌||◌, Bool, List, ap, sym}
 use Rattle.std.specs.List.{list_all}
 use Rattle.access_pages.specs.Runs.{runs_in}
+use Rattle.access_pins.proofs.NewOnce.{shorter}
 use Rattle.iofd_rows.proofs.Bools.{and_true}
 use Rattle.iofd_words.specs.Pins.{ObjectPage}
 use Rattle.iofd_words.specs.Span.{meets}
@@ -41,3 +42,13 @@ returns g c =
     let page : ObjectPage = record { memory = c.args.number; index = c.args.index } in
     sym (c.loop-area.invariant.same
     ∙ ap (λ (l : List Area). is_in_runs (runs_in c.args.span l) page) c.in-None.ensures.steps.0)
+
+pub run_in-requires : goal.run_in-requires
+run_in-requires g c =
+    (and_true (meets c.in-Some.area.now.span c.args.span) (list_all (λ (a : Area). meets a.span c.args.span) c.next.new.self)
+    (ap (λ (l : List Area). list_all (λ (a : Area). meets a.span c.args.span) l) (sym c.in-Some.ensures.steps)
+    ∙ c.loop-area.invariant.met)).0
+
+pub loop-area-smaller : goal.loop-area-smaller
+loop-area-smaller g c =
+    shorter c.loop-area.area-iterator c.next.new.self c.in-Some.area.now c.in-Some.ensures.steps

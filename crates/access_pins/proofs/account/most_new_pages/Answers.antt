@@ -1,7 +1,7 @@
 use Rattle.std.proofs.Common.{◌≡◌, ◌+◌, ◌∷◌, ◌∙◌, List, length, suc, ap, refl, sym, arith}
 use Rattle.std.specs.List.{list_all}
 use Rattle.access_pages.specs.Runs.{run_in, runs_in}
-use Rattle.access_pins.proofs.NewOnce.{area_most, no_runs}
+use Rattle.access_pins.proofs.NewOnce.{area_most, first_lies, no_runs, shorter}
 use Rattle.iofd_rows.proofs.Bools.{and_true}
 use Rattle.iofd_words.specs.Span.{meets}
 use Rattle.iofd_words.specs.declared.rows.Area.{Area}
@@ -55,3 +55,17 @@ overflow_add-count g c =
     let wide = c.new_pages_in.type_inv in
     let from = c.from-count.ensures in
     omega (arith, counts, many, few, wide, from)
+
+pub run_in-requires : goal.run_in-requires
+run_in-requires g c =
+    (and_true (meets c.in-Some.area.now.span c.args.span) (list_all (λ (a : Area). meets a.span c.args.span) c.next.new.self)
+    (ap (λ (l : List Area). list_all (λ (a : Area). meets a.span c.args.span) l) (sym c.in-Some.ensures.steps)
+    ∙ c.loop-area.invariant.met)).0
+
+pub new_pages_in-requires : goal.new_pages_in-requires
+new_pages_in-requires g c = first_lies c.args.memory.now c.args.span c.loop-area.area-iterator c.next.new.self c.in-Some.area.now
+    c.in-Some.ensures.steps c.loop-area.invariant.lies c.run_in.result c.run_in.ensures
+
+pub loop-area-smaller : goal.loop-area-smaller
+loop-area-smaller g c =
+    shorter c.loop-area.area-iterator c.next.new.self c.in-Some.area.now c.in-Some.ensures.steps

@@ -1,7 +1,7 @@
 use Rattle.std.proofs.Common.{◌≡◌, ◌+◌, ◌∷◌, ◌∙◌, List, length, suc, ap, refl, sym, arith}
 use Rattle.std.specs.List.{list_all}
 use Rattle.access_pages.specs.Runs.{run_in, runs_in}
-use Rattle.access_pins.proofs.NewOnce.{area_more, new_beside, no_runs}
+use Rattle.access_pins.proofs.NewOnce.{area_more, first_lies, new_beside, no_runs, shorter}
 use Rattle.iofd_rows.proofs.Bools.{and_true}
 use Rattle.iofd_words.specs.Span.{meets}
 use Rattle.iofd_words.specs.declared.rows.Area.{Area}
@@ -45,3 +45,17 @@ returns g c =
     let none : length (new_in_runs m (runs_in c.args.span c.loop-area.left)) ≡ 0 =
     ap (λ (l : List Area). length (new_in_runs m (runs_in c.args.span l))) c.in_default.ensures.steps.0 ∙ no_runs m in
     omega (arith, pages, none)
+
+pub run_in-requires : goal.run_in-requires
+run_in-requires g c =
+    (and_true (meets c.in-Some.area.now.span c.args.span) (list_all (λ (a : Area). meets a.span c.args.span) c.next.new.self)
+    (ap (λ (l : List Area). list_all (λ (a : Area). meets a.span c.args.span) l) (sym c.in-Some.ensures.steps)
+    ∙ c.loop-area.invariant.met)).0
+
+pub new_pages_of-requires-clause-lies : goal.new_pages_of-requires-clause-lies
+new_pages_of-requires-clause-lies g c = first_lies c.args.memory.now c.args.span c.loop-area.left c.next.new.self c.in-Some.area.now
+    c.in-Some.ensures.steps c.loop-area.invariant.lies c.run_in.result c.run_in.ensures
+
+pub loop-area-smaller : goal.loop-area-smaller
+loop-area-smaller g c =
+    shorter c.loop-area.left c.next.new.self c.in-Some.area.now c.in-Some.ensures.steps

@@ -1,4 +1,4 @@
-use Rattle.std.proofs.Common.{◌≡◌, Bool, true, ◌&&◌, Option, None, List, length, refl, is_none, is_some, ap, subst}
+use Rattle.std.proofs.Common.{ℕ, ◌<◌, leb, false, ◌≡◌, Bool, true, ◌&&◌, Option, None, List, length, refl, is_none, is_some, ap, subst}
 use Rattle.std.proofs.Common.{sym, ◌∙◌, arith}
 use Rattle.std.proofs.lemmas.Bool.Decides.{nat_tests}
 use Rattle.std.specs.List.{list_all}
@@ -130,14 +130,16 @@ pin-requires-clause-whole g c =
     c.in-Some-asked_pin.pin c.in-Some-asked_pin.ensures.row c.in-Some-asked_pin.ensures.space
     c.in-Some-areas_of.areas.now.areas c.in-Some-areas_of.ensures.1 c.len.ensures.kept.apart
 
+below_most : (n : ℕ) → leb 65535 n ≡ false → n < 65535
+below_most n few = search (few, arith, nat_tests)
+
 pub pin-requires-clause-few : goal.pin-requires-clause-few
 pin-requires-clause-few g c =
     let known = c.requires.granted in
-    let few = has_room c.requires.at known.world c.args.state.now c.args.file c.args.id c.args.request known.tidy
+    below_most _ (has_room c.requires.at known.world c.args.state.now c.args.file c.args.id c.args.request known.tidy
     known.shows known.none c.in-Some-attached_to.ioas (sym c.in-Some-attached_to.is ∙ c.attached_to.ensures)
     c.in-Some-asked_pin.pin c.in-Some-asked_pin.ensures.row c.in-Some-asked_pin.ensures.space
-    c.in-Some-areas_of.areas.now.areas c.in-Some-areas_of.ensures.1 c.len.ensures.kept.apart in
-    search (few, arith, nat_tests)
+    c.in-Some-areas_of.areas.now.areas c.in-Some-areas_of.ensures.1 c.len.ensures.kept.apart)
 
 pub unpin_all-requires-clause-met : goal.unpin_all-requires-clause-met
 unpin_all-requires-clause-met g c =

@@ -3,6 +3,7 @@ use Rattle.std.specs.Prelude.{is_none}
 use Rattle.std.specs.List.{list_all, list_any}
 use Rattle.access_pages.specs.Runs.{run_in, runs_in}
 use Rattle.access_pins.proofs.NewAccessed.{next_new, none_new}
+use Rattle.access_pins.proofs.NewOnce.{first_lies, shorter}
 use Rattle.iofd_rows.proofs.Bools.{and_true}
 use Rattle.iofd_words.specs.Pins.{ObjectPage}
 use Rattle.iofd_words.specs.Span.{meets}
@@ -48,3 +49,17 @@ returns g c =
     sym (c.loop-area.invariant.same
     ∙ ap (λ (l : List Area). list_any q (new_in_runs m (runs_in c.args.span l))) c.in-None.ensures.steps.0
     ∙ none_new q m)
+
+pub run_in-requires : goal.run_in-requires
+run_in-requires g c =
+    (and_true (meets c.in-Some.area.now.span c.args.span) (list_all (λ (a : Area). meets a.span c.args.span) c.next.new.self)
+    (ap (λ (l : List Area). list_all (λ (a : Area). meets a.span c.args.span) l) (sym c.in-Some.ensures.steps)
+    ∙ c.loop-area.invariant.met)).0
+
+pub lacks_page_in-requires : goal.lacks_page_in-requires
+lacks_page_in-requires g c = first_lies c.args.memory.now c.args.span c.loop-area.area-iterator c.next.new.self c.in-Some.area.now
+    c.in-Some.ensures.steps c.loop-area.invariant.lies c.run_in.result c.run_in.ensures
+
+pub loop-area-smaller : goal.loop-area-smaller
+loop-area-smaller g c =
+    shorter c.loop-area.area-iterator c.next.new.self c.in-Some.area.now c.in-Some.ensures.steps

@@ -1,7 +1,8 @@
-use Rattle.std.proofs.Common.{◌≡◌, ◌∙◌, ap, sym, set, arith}
+use Rattle.std.proofs.Common.{◌≡◌, ◌∙◌, ap, refl, sym, set, arith}
 use Rattle.std.proofs.lemmas.List.Edits.{map_over_more}
 use Rattle.iofd_words.specs.Dirty.{TrackedTable}
 use Rattle.journal_audit_world.specs.Tracked.{with_page}
+use Rattle.journal_audit_world.proofs.TrackedPages.{each_changed}
 use Rattle.journal_audit_world.proofs.tracked.mark.Goals as goal
 
 pub loop-row-preserved : goal.loop-row-preserved
@@ -12,3 +13,13 @@ loop-row-preserved g c =
     (omega arith) c.loop-row.invariant c.row-item.is in
     let new : c.mark_one.new.row ≡ f c.row-item.result = c.in_ok-mark_one.ensures ∙ ap f (sym c.row-item.is) in
     ap (λ (t : TrackedTable). set items c.loop-row.row-index t) new ∙ step
+
+pub loop-row-init : goal.loop-row-init
+loop-row-init g c = refl
+
+pub returns : goal.returns
+returns g c =
+    each_changed (with_page c.args.file c.args.hwpt c.args.page)
+    c.args.rows.now.items c.deref_mut-row-items.result.now c.loop-row.row-items c.args.rows.now.len
+    c.loop-row.row-index c.deref_mut-row-items.ensures.value c.deref_mut-row-items.ensures.len c.loop-row-test.false
+    c.loop-row.invariant

@@ -1,21 +1,19 @@
-use Rattle.std.proofs.Common.{◌≡◌, ◌∙◌, ◌+◌, ◌<◌, ◌^◌, List, Option, Some, true, length, refl, sym, ap, subst, arith}
-use Rattle.std.specs.List.{slice_get}
-use Rattle.std.proofs.lemmas.Bool.Decides.{nat_tests}
-use Rattle.std.proofs.lemmas.Option.{slice_get_read}
+use Rattle.std.proofs.Common.{◌≡◌, ◌∙◌, ◌+◌, ◌<◌, ◌^◌, List, Option, true, refl, sym, ap, subst}
 use Rattle.frame_memory.specs.Pool.{may_hold}
 use Rattle.mem_account.specs.Accounts.{has_room, is_user}
 use Rattle.memory_objects.specs.Backed.{AccountsMove, HoldsMove}
 use Rattle.memory_objects.specs.Invariant.{MemoryInvariant}
 use Rattle.memory_objects.specs.Objects.{MemoryEntry, access_pins_in, object_at, rows_of, standing}
-use Rattle.memory_objects.specs.Runs.{has_room_for, run_count_in, run_is_there}
+use Rattle.memory_objects.specs.Runs.{run_count_in, run_is_there}
 use Rattle.pinned_pages.specs.Accesses.{IsAccessPinned, run_count, run_frames}
 use Rattle.pinned_pages.proofs.FirstPin.{run_fits}
 use Rattle.memory_objects.proofs.AreaCounts.{rising_left}
 use Rattle.memory_objects.proofs.Gone.{gone_set}
-use Rattle.memory_objects.proofs.Moved.{accounts_more, holds_added}
-use Rattle.memory_objects.proofs.RunOne.{at_number, if_found, kept_set, lies_found, passes_found, rows_set}
+use Rattle.memory_objects.proofs.Moved.{accounts_stay, holds_stay, accounts_more, holds_added}
+use Rattle.memory_objects.proofs.RunOne.{lies_nowhere}
+use Rattle.memory_objects.proofs.RunOne.{at_number, if_found, kept_set, lies_found, passes_found, room_found, rows_set}
 use Rattle.memory_objects.proofs.RunOne.{same_user}
-use Rattle.memory_objects.proofs.Standing.{found_stands, place_in, rising_set, standing_at, standing_set, stands}
+use Rattle.memory_objects.proofs.Standing.{found_at, found_stands, place_in, read_at, rising_set, standing_at, standing_set, stands}
 use Rattle.memory_objects.proofs.accesses.pin_run.Goals as goal
 
 pub pin_run_reserved-requires-clause-run : goal.pin_run_reserved-requires-clause-run
@@ -24,11 +22,8 @@ pin_run_reserved-requires-clause-run g c =
     let objects = standing all in
     let n = c.args.run.number in
     let x = c.index_mut-entry.result.now in
-    let here : slice_get all c.in-Some.place ≡ Some x =
-    slice_get_read all (length all) c.in-Some.place x refl (rw c.deref.ensures.value at c.in-Some.ensures.within)
-    c.index_mut-entry.ensures.value in
-    let found : object_at objects n ≡ Some x =
-    sym (rw c.deref.ensures.value at c.in-Some.ensures.some) ∙ here in
+    let found = found_at all c.in-Some.place n x (rw c.deref.ensures.value at c.in-Some.ensures.within)
+    c.index_mut-entry.ensures.value (rw c.deref.ensures.value at c.in-Some.ensures.some) in
     lies_found c.args.run (object_at objects n) x c.requires.can.lies found
 
 pub pin_run_reserved-requires-clause-user : goal.pin_run_reserved-requires-clause-user
@@ -37,11 +32,8 @@ pin_run_reserved-requires-clause-user g c =
     let objects = standing all in
     let n = c.args.run.number in
     let x = c.index_mut-entry.result.now in
-    let here : slice_get all c.in-Some.place ≡ Some x =
-    slice_get_read all (length all) c.in-Some.place x refl (rw c.deref.ensures.value at c.in-Some.ensures.within)
-    c.index_mut-entry.ensures.value in
-    let found : object_at objects n ≡ Some x =
-    sym (rw c.deref.ensures.value at c.in-Some.ensures.some) ∙ here in
+    let found = found_at all c.in-Some.place n x (rw c.deref.ensures.value at c.in-Some.ensures.within)
+    c.index_mut-entry.ensures.value (rw c.deref.ensures.value at c.in-Some.ensures.some) in
     passes_found (λ o. is_user c.args.accounts.now o.pages.pages.user.0) (object_at objects n) x c.requires.can.user
     found
 
@@ -51,11 +43,8 @@ pin_run_reserved-requires-clause-pins g c index within =
     let objects = standing all in
     let n = c.args.run.number in
     let x = c.index_mut-entry.result.now in
-    let here : slice_get all c.in-Some.place ≡ Some x =
-    slice_get_read all (length all) c.in-Some.place x refl (rw c.deref.ensures.value at c.in-Some.ensures.within)
-    c.index_mut-entry.ensures.value in
-    let found : object_at objects n ≡ Some x =
-    sym (rw c.deref.ensures.value at c.in-Some.ensures.some) ∙ here in
+    let found = found_at all c.in-Some.place n x (rw c.deref.ensures.value at c.in-Some.ensures.within)
+    c.index_mut-entry.ensures.value (rw c.deref.ensures.value at c.in-Some.ensures.some) in
     let P : Option MemoryEntry → Type 0 = λ o. access_pins_in o index + 1 < 2 ^ 64 in
     subst P found (c.requires.can.pins index within)
 
@@ -65,11 +54,8 @@ pin_run_reserved-requires-clause-holds g c =
     let objects = standing all in
     let n = c.args.run.number in
     let x = c.index_mut-entry.result.now in
-    let here : slice_get all c.in-Some.place ≡ Some x =
-    slice_get_read all (length all) c.in-Some.place x refl (rw c.deref.ensures.value at c.in-Some.ensures.within)
-    c.index_mut-entry.ensures.value in
-    let found : object_at objects n ≡ Some x =
-    sym (rw c.deref.ensures.value at c.in-Some.ensures.some) ∙ here in
+    let found = found_at all c.in-Some.place n x (rw c.deref.ensures.value at c.in-Some.ensures.within)
+    c.index_mut-entry.ensures.value (rw c.deref.ensures.value at c.in-Some.ensures.some) in
     let P : Option MemoryEntry → Type 0 = λ o. may_hold c.args.pool.now.holds (run_count_in c.args.run o) ≡ true in
     subst P found c.requires.can.holds
 
@@ -79,11 +65,8 @@ pin_run_reserved-requires-clause-granted g c =
     let objects = standing all in
     let n = c.args.run.number in
     let x = c.index_mut-entry.result.now in
-    let here : slice_get all c.in-Some.place ≡ Some x =
-    slice_get_read all (length all) c.in-Some.place x refl (rw c.deref.ensures.value at c.in-Some.ensures.within)
-    c.index_mut-entry.ensures.value in
-    let found : object_at objects n ≡ Some x =
-    sym (rw c.deref.ensures.value at c.in-Some.ensures.some) ∙ here in
+    let found = found_at all c.in-Some.place n x (rw c.deref.ensures.value at c.in-Some.ensures.within)
+    c.index_mut-entry.ensures.value (rw c.deref.ensures.value at c.in-Some.ensures.some) in
     run_fits x.pages.pages c.args.users.now.pages c.args.accounts.now c.args.run.first c.args.run.count
     (passes_found (run_is_there c.args.users.now.pages c.args.run) (object_at objects n) x c.requires.can.present found)
     (passes_found (λ o. has_room c.args.accounts.now o.pages.pages.user.0
@@ -95,13 +78,9 @@ pin_run_reserved-requires-clause-memory g c =
     let objects = standing all in
     let n = c.args.run.number in
     let x = c.index_mut-entry.result.now in
-    let here : slice_get all c.in-Some.place ≡ Some x =
-    slice_get_read all (length all) c.in-Some.place x refl (rw c.deref.ensures.value at c.in-Some.ensures.within)
-    c.index_mut-entry.ensures.value in
-    let found : object_at objects n ≡ Some x =
-    sym (rw c.deref.ensures.value at c.in-Some.ensures.some) ∙ here in
-    let enough = passes_found (has_room_for c.args.run) (object_at objects n) x c.requires.can.memory found in
-    search (enough, arith, nat_tests)
+    let found = found_at all c.in-Some.place n x (rw c.deref.ensures.value at c.in-Some.ensures.within)
+    c.index_mut-entry.ensures.value (rw c.deref.ensures.value at c.in-Some.ensures.some) in
+    room_found c.args.run (object_at objects n) x c.requires.can.memory found
 
 pub returns-clause-objects : goal.returns-clause-objects
 returns-clause-objects g c =
@@ -109,11 +88,9 @@ returns-clause-objects g c =
     let objects = standing all in
     let n = c.args.run.number in
     let x = c.index_mut-entry.result.now in
-    let here : slice_get all c.in-Some.place ≡ Some x =
-    slice_get_read all (length all) c.in-Some.place x refl (rw c.deref.ensures.value at c.in-Some.ensures.within)
+    let here = read_at all c.in-Some.place x (rw c.deref.ensures.value at c.in-Some.ensures.within)
     c.index_mut-entry.ensures.value in
-    let found : object_at objects n ≡ Some x =
-    sym (rw c.deref.ensures.value at c.in-Some.ensures.some) ∙ here in
+    let found = sym (rw c.deref.ensures.value at c.in-Some.ensures.some) ∙ here in
     let is = found_stands all n x found in
     let there = standing_at all c.in-Some.place x here is in
     let place = place_in all c.in-Some.place in
@@ -136,11 +113,9 @@ returns-clause-rows g c =
     let objects = standing all in
     let n = c.args.run.number in
     let x = c.index_mut-entry.result.now in
-    let here : slice_get all c.in-Some.place ≡ Some x =
-    slice_get_read all (length all) c.in-Some.place x refl (rw c.deref.ensures.value at c.in-Some.ensures.within)
+    let here = read_at all c.in-Some.place x (rw c.deref.ensures.value at c.in-Some.ensures.within)
     c.index_mut-entry.ensures.value in
-    let found : object_at objects n ≡ Some x =
-    sym (rw c.deref.ensures.value at c.in-Some.ensures.some) ∙ here in
+    let found = sym (rw c.deref.ensures.value at c.in-Some.ensures.some) ∙ here in
     let is = found_stands all n x found in
     let there = standing_at all c.in-Some.place x here is in
     let place = place_in all c.in-Some.place in
@@ -156,11 +131,9 @@ returns-clause-kept g c kept =
     let objects = standing all in
     let n = c.args.run.number in
     let x = c.index_mut-entry.result.now in
-    let here : slice_get all c.in-Some.place ≡ Some x =
-    slice_get_read all (length all) c.in-Some.place x refl (rw c.deref.ensures.value at c.in-Some.ensures.within)
+    let here = read_at all c.in-Some.place x (rw c.deref.ensures.value at c.in-Some.ensures.within)
     c.index_mut-entry.ensures.value in
-    let found : object_at objects n ≡ Some x =
-    sym (rw c.deref.ensures.value at c.in-Some.ensures.some) ∙ here in
+    let found = sym (rw c.deref.ensures.value at c.in-Some.ensures.some) ∙ here in
     let is = found_stands all n x found in
     let there = standing_at all c.in-Some.place x here is in
     let place = place_in all c.in-Some.place in
@@ -177,11 +150,9 @@ returns-clause-gone g c =
     let objects = standing all in
     let n = c.args.run.number in
     let x = c.index_mut-entry.result.now in
-    let here : slice_get all c.in-Some.place ≡ Some x =
-    slice_get_read all (length all) c.in-Some.place x refl (rw c.deref.ensures.value at c.in-Some.ensures.within)
+    let here = read_at all c.in-Some.place x (rw c.deref.ensures.value at c.in-Some.ensures.within)
     c.index_mut-entry.ensures.value in
-    let found : object_at objects n ≡ Some x =
-    sym (rw c.deref.ensures.value at c.in-Some.ensures.some) ∙ here in
+    let found = sym (rw c.deref.ensures.value at c.in-Some.ensures.some) ∙ here in
     let is = found_stands all n x found in
     gone_set all c.in-Some.place x (record { number = x.number; areas = x.areas; pages = c.pin_run_reserved.new.self })
     here is is
@@ -189,14 +160,9 @@ returns-clause-gone g c =
 pub returns-clause-rising : goal.returns-clause-rising
 returns-clause-rising g c =
     let all = c.args.entries.now.items in
-    let objects = standing all in
-    let n = c.args.run.number in
     let x = c.index_mut-entry.result.now in
-    let here : slice_get all c.in-Some.place ≡ Some x =
-    slice_get_read all (length all) c.in-Some.place x refl (rw c.deref.ensures.value at c.in-Some.ensures.within)
+    let here = read_at all c.in-Some.place x (rw c.deref.ensures.value at c.in-Some.ensures.within)
     c.index_mut-entry.ensures.value in
-    let found : object_at objects n ≡ Some x =
-    sym (rw c.deref.ensures.value at c.in-Some.ensures.some) ∙ here in
     rising_set all c.in-Some.place x (record {
       number = x.number;
       areas = x.areas;
@@ -210,18 +176,15 @@ returns-clause-pool g c =
     let objects = standing all in
     let n = c.args.run.number in
     let x = c.index_mut-entry.result.now in
-    let here : slice_get all c.in-Some.place ≡ Some x =
-    slice_get_read all (length all) c.in-Some.place x refl (rw c.deref.ensures.value at c.in-Some.ensures.within)
+    let here = read_at all c.in-Some.place x (rw c.deref.ensures.value at c.in-Some.ensures.within)
     c.index_mut-entry.ensures.value in
-    let found : object_at objects n ≡ Some x =
-    sym (rw c.deref.ensures.value at c.in-Some.ensures.some) ∙ here in
+    let found = sym (rw c.deref.ensures.value at c.in-Some.ensures.some) ∙ here in
     let is = found_stands all n x found in
     let there = standing_at all c.in-Some.place x here is in
     let place = place_in all c.in-Some.place in
     let new = c.pin_run_reserved.new.self in
     let y : MemoryEntry = record { number = x.number; areas = x.areas; pages = new } in
     let changed = standing_set all c.in-Some.place x y here is is in
-    let rising = rising_left stands all c.requires.rising in
     let H : List MemoryEntry → Type 0 = λ xs. HoldsMove objects xs c.args.pool.now c.pin_run_reserved.new.pool in
     subst H (sym changed) (holds_added objects place x y there c.args.pool.now c.pin_run_reserved.new.pool
     (run_frames x.pages.pages c.args.users.now.pages c.args.run.first c.args.run.count)
@@ -233,11 +196,9 @@ returns-clause-accounts g c =
     let objects = standing all in
     let n = c.args.run.number in
     let x = c.index_mut-entry.result.now in
-    let here : slice_get all c.in-Some.place ≡ Some x =
-    slice_get_read all (length all) c.in-Some.place x refl (rw c.deref.ensures.value at c.in-Some.ensures.within)
+    let here = read_at all c.in-Some.place x (rw c.deref.ensures.value at c.in-Some.ensures.within)
     c.index_mut-entry.ensures.value in
-    let found : object_at objects n ≡ Some x =
-    sym (rw c.deref.ensures.value at c.in-Some.ensures.some) ∙ here in
+    let found = sym (rw c.deref.ensures.value at c.in-Some.ensures.some) ∙ here in
     let is = found_stands all n x found in
     let there = standing_at all c.in-Some.place x here is in
     let place = place_in all c.in-Some.place in
@@ -253,3 +214,46 @@ returns-clause-accounts g c =
     (same_user objects n place x new rising there found c.pin_run_reserved.ensures.pages.same) known
     (run_count x.pages.pages c.args.run.first c.args.run.count) c.pin_run_reserved.ensures.accounts
     c.pin_run_reserved.ensures.count)
+
+pub place_of-requires : goal.place_of-requires
+place_of-requires g c = rw c.deref.ensures.value c.requires.rising
+
+pub index_mut-entry-requires : goal.index_mut-entry-requires
+index_mut-entry-requires g c = rw c.deref.ensures.len at c.in-Some.ensures.within
+
+pub returns-in_default-clause-objects : goal.returns-in_default-clause-objects
+returns-in_default-clause-objects g c = absurd (lies_nowhere c.args.run (object_at (standing c.args.entries.now.items) c.args.run.number)
+    c.requires.can.lies (rw c.deref.ensures.value at c.in_default.ensures.none))
+
+pub returns-in_default-clause-rows : goal.returns-in_default-clause-rows
+returns-in_default-clause-rows g c = refl
+
+pub returns-in_default-clause-kept : goal.returns-in_default-clause-kept
+returns-in_default-clause-kept g c kept = kept
+
+pub returns-in_default-clause-gone : goal.returns-in_default-clause-gone
+returns-in_default-clause-gone g c = refl
+
+pub returns-in_default-clause-rising : goal.returns-in_default-clause-rising
+returns-in_default-clause-rising g c = c.requires.rising
+
+pub returns-in_default-clause-len : goal.returns-in_default-clause-len
+returns-in_default-clause-len g c = refl
+
+pub returns-in_default-clause-capacity : goal.returns-in_default-clause-capacity
+returns-in_default-clause-capacity g c = refl
+
+pub returns-in_default-clause-pool : goal.returns-in_default-clause-pool
+returns-in_default-clause-pool g c = holds_stay (standing c.args.entries.now.items) c.args.pool.now
+
+pub returns-in_default-clause-accounts : goal.returns-in_default-clause-accounts
+returns-in_default-clause-accounts g c = accounts_stay (standing c.args.entries.now.items) c.args.accounts.now
+
+pub returns-clause-len : goal.returns-clause-len
+returns-clause-len g c = refl
+
+pub returns-clause-capacity : goal.returns-clause-capacity
+returns-clause-capacity g c = refl
+
+pub pin_run_reserved-requires-clause-within : goal.pin_run_reserved-requires-clause-within
+pin_run_reserved-requires-clause-within g c = c.requires.can.within

@@ -1,13 +1,12 @@
-use Rattle.std.proofs.Common.{◌≡◌, ◌∙◌, ◌≤◌, List, Some, true, length, refl, sym, ap, subst}
-use Rattle.std.specs.List.{slice_get}
-use Rattle.std.proofs.lemmas.Option.{slice_get_read}
+use Rattle.std.proofs.Common.{◌≡◌, ◌∙◌, ◌≤◌, List, true, refl, sym, ap, subst}
 use Rattle.memory_objects.specs.Invariant.{MemoryInvariant}
 use Rattle.memory_objects.specs.Objects.{MemoryEntry, object_at, passes, rows_of, standing}
 use Rattle.memory_objects.specs.Runs.{has_room_for}
 use Rattle.memory_objects.proofs.AreaCounts.{rising_left}
 use Rattle.memory_objects.proofs.Gone.{gone_set}
+use Rattle.memory_objects.proofs.RunOne.{lies_nowhere}
 use Rattle.memory_objects.proofs.RunOne.{at_number, if_found, kept_set, lies_found, rows_set}
-use Rattle.memory_objects.proofs.Standing.{found_stands, place_in, rising_set, standing_at, standing_set, stands}
+use Rattle.memory_objects.proofs.Standing.{found_at, found_stands, place_in, read_at, rising_set, standing_at, standing_set, stands}
 use Rattle.std.proofs.lemmas.Result.{on_err_weaker, on_ok_weaker}
 use Rattle.memory_objects.proofs.RunOne.{found_counted, has_room_now, lacked_room}
 use Rattle.pinned_pages.specs.Access.{are_counted}
@@ -20,11 +19,8 @@ reserve_for_access-requires g c =
     let objects = standing all in
     let n = c.args.run.number in
     let x = c.index_mut-entry.result.now in
-    let here : slice_get all c.in-Some.place ≡ Some x =
-    slice_get_read all (length all) c.in-Some.place x refl (rw c.deref.ensures.value at c.in-Some.ensures.within)
-    c.index_mut-entry.ensures.value in
-    let found : object_at objects n ≡ Some x =
-    sym (rw c.deref.ensures.value at c.in-Some.ensures.some) ∙ here in
+    let found = found_at all c.in-Some.place n x (rw c.deref.ensures.value at c.in-Some.ensures.within)
+    c.index_mut-entry.ensures.value (rw c.deref.ensures.value at c.in-Some.ensures.some) in
     record { run = lies_found c.args.run (object_at objects n) x c.requires.lies found }
 
 pub returns-in-Some-clause-objects : goal.returns-in-Some-clause-objects
@@ -33,11 +29,9 @@ returns-in-Some-clause-objects g c =
     let objects = standing all in
     let n = c.args.run.number in
     let x = c.index_mut-entry.result.now in
-    let here : slice_get all c.in-Some.place ≡ Some x =
-    slice_get_read all (length all) c.in-Some.place x refl (rw c.deref.ensures.value at c.in-Some.ensures.within)
+    let here = read_at all c.in-Some.place x (rw c.deref.ensures.value at c.in-Some.ensures.within)
     c.index_mut-entry.ensures.value in
-    let found : object_at objects n ≡ Some x =
-    sym (rw c.deref.ensures.value at c.in-Some.ensures.some) ∙ here in
+    let found = sym (rw c.deref.ensures.value at c.in-Some.ensures.some) ∙ here in
     let is = found_stands all n x found in
     let there = standing_at all c.in-Some.place x here is in
     let place = place_in all c.in-Some.place in
@@ -60,11 +54,9 @@ returns-in-Some-clause-rows g c =
     let objects = standing all in
     let n = c.args.run.number in
     let x = c.index_mut-entry.result.now in
-    let here : slice_get all c.in-Some.place ≡ Some x =
-    slice_get_read all (length all) c.in-Some.place x refl (rw c.deref.ensures.value at c.in-Some.ensures.within)
+    let here = read_at all c.in-Some.place x (rw c.deref.ensures.value at c.in-Some.ensures.within)
     c.index_mut-entry.ensures.value in
-    let found : object_at objects n ≡ Some x =
-    sym (rw c.deref.ensures.value at c.in-Some.ensures.some) ∙ here in
+    let found = sym (rw c.deref.ensures.value at c.in-Some.ensures.some) ∙ here in
     let is = found_stands all n x found in
     let there = standing_at all c.in-Some.place x here is in
     let place = place_in all c.in-Some.place in
@@ -82,11 +74,9 @@ returns-in-Some-clause-kept g c kept =
     let objects = standing all in
     let n = c.args.run.number in
     let x = c.index_mut-entry.result.now in
-    let here : slice_get all c.in-Some.place ≡ Some x =
-    slice_get_read all (length all) c.in-Some.place x refl (rw c.deref.ensures.value at c.in-Some.ensures.within)
+    let here = read_at all c.in-Some.place x (rw c.deref.ensures.value at c.in-Some.ensures.within)
     c.index_mut-entry.ensures.value in
-    let found : object_at objects n ≡ Some x =
-    sym (rw c.deref.ensures.value at c.in-Some.ensures.some) ∙ here in
+    let found = sym (rw c.deref.ensures.value at c.in-Some.ensures.some) ∙ here in
     let is = found_stands all n x found in
     let there = standing_at all c.in-Some.place x here is in
     let place = place_in all c.in-Some.place in
@@ -106,11 +96,9 @@ returns-in-Some-clause-ok g c =
     let objects = standing all in
     let n = c.args.run.number in
     let x = c.index_mut-entry.result.now in
-    let here : slice_get all c.in-Some.place ≡ Some x =
-    slice_get_read all (length all) c.in-Some.place x refl (rw c.deref.ensures.value at c.in-Some.ensures.within)
+    let here = read_at all c.in-Some.place x (rw c.deref.ensures.value at c.in-Some.ensures.within)
     c.index_mut-entry.ensures.value in
-    let found : object_at objects n ≡ Some x =
-    sym (rw c.deref.ensures.value at c.in-Some.ensures.some) ∙ here in
+    let found = sym (rw c.deref.ensures.value at c.in-Some.ensures.some) ∙ here in
     let is = found_stands all n x found in
     let there = standing_at all c.in-Some.place x here is in
     let place = place_in all c.in-Some.place in
@@ -129,11 +117,8 @@ returns-in-Some-clause-err g c =
     let objects = standing all in
     let n = c.args.run.number in
     let x = c.index_mut-entry.result.now in
-    let here : slice_get all c.in-Some.place ≡ Some x =
-    slice_get_read all (length all) c.in-Some.place x refl (rw c.deref.ensures.value at c.in-Some.ensures.within)
-    c.index_mut-entry.ensures.value in
-    let found : object_at objects n ≡ Some x =
-    sym (rw c.deref.ensures.value at c.in-Some.ensures.some) ∙ here in
+    let found = found_at all c.in-Some.place n x (rw c.deref.ensures.value at c.in-Some.ensures.within)
+    c.index_mut-entry.ensures.value (rw c.deref.ensures.value at c.in-Some.ensures.some) in
     on_err_weaker c.reserve_for_access.result (lacked_room (object_at objects n) x found c.args.run)
     c.reserve_for_access.ensures.full
 
@@ -143,11 +128,9 @@ returns-in-Some-clause-gone g c =
     let objects = standing all in
     let n = c.args.run.number in
     let x = c.index_mut-entry.result.now in
-    let here : slice_get all c.in-Some.place ≡ Some x =
-    slice_get_read all (length all) c.in-Some.place x refl (rw c.deref.ensures.value at c.in-Some.ensures.within)
+    let here = read_at all c.in-Some.place x (rw c.deref.ensures.value at c.in-Some.ensures.within)
     c.index_mut-entry.ensures.value in
-    let found : object_at objects n ≡ Some x =
-    sym (rw c.deref.ensures.value at c.in-Some.ensures.some) ∙ here in
+    let found = sym (rw c.deref.ensures.value at c.in-Some.ensures.some) ∙ here in
     let is = found_stands all n x found in
     gone_set all c.in-Some.place x (record {
       number = x.number;
@@ -158,14 +141,9 @@ returns-in-Some-clause-gone g c =
 pub returns-in-Some-clause-rising : goal.returns-in-Some-clause-rising
 returns-in-Some-clause-rising g c =
     let all = c.args.entries.now.items in
-    let objects = standing all in
-    let n = c.args.run.number in
     let x = c.index_mut-entry.result.now in
-    let here : slice_get all c.in-Some.place ≡ Some x =
-    slice_get_read all (length all) c.in-Some.place x refl (rw c.deref.ensures.value at c.in-Some.ensures.within)
+    let here = read_at all c.in-Some.place x (rw c.deref.ensures.value at c.in-Some.ensures.within)
     c.index_mut-entry.ensures.value in
-    let found : object_at objects n ≡ Some x =
-    sym (rw c.deref.ensures.value at c.in-Some.ensures.some) ∙ here in
     rising_set all c.in-Some.place x (record {
       number = x.number;
       areas = x.areas;
@@ -173,3 +151,44 @@ returns-in-Some-clause-rising g c =
           c.reserve_for_access.new.self;
     })
     c.requires.rising here refl
+
+pub place_of-requires : goal.place_of-requires
+place_of-requires g c = rw c.deref.ensures.value c.requires.rising
+
+pub index_mut-entry-requires : goal.index_mut-entry-requires
+index_mut-entry-requires g c = rw c.deref.ensures.len at c.in-Some.ensures.within
+
+pub returns-in-None-clause-ok : goal.returns-in-None-clause-ok
+returns-in-None-clause-ok g c = absurd (lies_nowhere c.args.run (object_at (standing c.args.entries.now.items) c.args.run.number)
+    c.requires.lies (rw c.deref.ensures.value at c.in-None.ensures.none))
+
+pub returns-in-None-clause-objects : goal.returns-in-None-clause-objects
+returns-in-None-clause-objects g c = absurd (lies_nowhere c.args.run (object_at (standing c.args.entries.now.items) c.args.run.number)
+    c.requires.lies (rw c.deref.ensures.value at c.in-None.ensures.none))
+
+pub returns-in-None-clause-rows : goal.returns-in-None-clause-rows
+returns-in-None-clause-rows g c = refl
+
+pub returns-in-None-clause-kept : goal.returns-in-None-clause-kept
+returns-in-None-clause-kept g c kept = kept
+
+pub returns-in-None-clause-gone : goal.returns-in-None-clause-gone
+returns-in-None-clause-gone g c = refl
+
+pub returns-in-None-clause-rising : goal.returns-in-None-clause-rising
+returns-in-None-clause-rising g c = c.requires.rising
+
+pub returns-in-None-clause-len : goal.returns-in-None-clause-len
+returns-in-None-clause-len g c = refl
+
+pub returns-in-None-clause-capacity : goal.returns-in-None-clause-capacity
+returns-in-None-clause-capacity g c = refl
+
+pub returns-in-None-clause-err : goal.returns-in-None-clause-err
+returns-in-None-clause-err g c = tt
+
+pub returns-in-Some-clause-len : goal.returns-in-Some-clause-len
+returns-in-Some-clause-len g c = refl
+
+pub returns-in-Some-clause-capacity : goal.returns-in-Some-clause-capacity
+returns-in-Some-clause-capacity g c = refl

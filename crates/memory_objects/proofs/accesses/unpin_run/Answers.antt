@@ -1,16 +1,15 @@
-use Rattle.std.proofs.Common.{◌≡◌, ◌∙◌, ◌≤◌, List, Option, Some, length, refl, sym, ap, subst, arith}
-use Rattle.std.specs.List.{slice_get}
-use Rattle.std.proofs.lemmas.Option.{slice_get_read}
+use Rattle.std.proofs.Common.{◌≡◌, ◌∙◌, ◌≤◌, List, Option, refl, sym, ap, subst, arith}
 use Rattle.memory_objects.specs.Backed.{AccountsMove, HoldsMove}
 use Rattle.memory_objects.specs.Invariant.{MemoryInvariant}
 use Rattle.memory_objects.specs.Objects.{MemoryEntry, access_pins_in, object_at, rows_of, standing}
 use Rattle.pinned_pages.specs.Accesses.{IsAccessReleased, gone_count, gone_frames}
 use Rattle.memory_objects.proofs.AreaCounts.{rising_left}
 use Rattle.memory_objects.proofs.Gone.{gone_set}
-use Rattle.memory_objects.proofs.Moved.{accounts_less, holds_taken}
+use Rattle.memory_objects.proofs.Moved.{accounts_stay, holds_stay, accounts_less, holds_taken}
+use Rattle.memory_objects.proofs.RunOne.{lies_nowhere}
 use Rattle.memory_objects.proofs.RunOne.{at_number, if_found, kept_set, lies_found, rows_set, run_frames_held}
 use Rattle.memory_objects.proofs.RunOne.{run_held, run_user, same_user}
-use Rattle.memory_objects.proofs.Standing.{found_stands, place_in, rising_set, standing_at, standing_set, stands}
+use Rattle.memory_objects.proofs.Standing.{found_at, found_stands, place_in, read_at, rising_set, standing_at, standing_set, stands}
 use Rattle.memory_objects.proofs.accesses.unpin_run.Goals as goal
 
 pub unpin_by_access-requires-clause-run : goal.unpin_by_access-requires-clause-run
@@ -19,11 +18,8 @@ unpin_by_access-requires-clause-run g c =
     let objects = standing all in
     let n = c.args.run.number in
     let x = c.index_mut-entry.result.now in
-    let here : slice_get all c.in-Some.place ≡ Some x =
-    slice_get_read all (length all) c.in-Some.place x refl (rw c.deref.ensures.value at c.in-Some.ensures.within)
-    c.index_mut-entry.ensures.value in
-    let found : object_at objects n ≡ Some x =
-    sym (rw c.deref.ensures.value at c.in-Some.ensures.some) ∙ here in
+    let found = found_at all c.in-Some.place n x (rw c.deref.ensures.value at c.in-Some.ensures.within)
+    c.index_mut-entry.ensures.value (rw c.deref.ensures.value at c.in-Some.ensures.some) in
     lies_found c.args.run (object_at objects n) x c.requires.has.lies found
 
 pub unpin_by_access-requires-clause-pins : goal.unpin_by_access-requires-clause-pins
@@ -32,11 +28,8 @@ unpin_by_access-requires-clause-pins g c index within =
     let objects = standing all in
     let n = c.args.run.number in
     let x = c.index_mut-entry.result.now in
-    let here : slice_get all c.in-Some.place ≡ Some x =
-    slice_get_read all (length all) c.in-Some.place x refl (rw c.deref.ensures.value at c.in-Some.ensures.within)
-    c.index_mut-entry.ensures.value in
-    let found : object_at objects n ≡ Some x =
-    sym (rw c.deref.ensures.value at c.in-Some.ensures.some) ∙ here in
+    let found = found_at all c.in-Some.place n x (rw c.deref.ensures.value at c.in-Some.ensures.within)
+    c.index_mut-entry.ensures.value (rw c.deref.ensures.value at c.in-Some.ensures.some) in
     let P : Option MemoryEntry → Type 0 = λ o. 1 ≤ access_pins_in o index in
     subst P found (c.requires.has.pins index within)
 
@@ -46,11 +39,9 @@ unpin_by_access-requires-clause-user g c =
     let objects = standing all in
     let n = c.args.run.number in
     let x = c.index_mut-entry.result.now in
-    let here : slice_get all c.in-Some.place ≡ Some x =
-    slice_get_read all (length all) c.in-Some.place x refl (rw c.deref.ensures.value at c.in-Some.ensures.within)
+    let here = read_at all c.in-Some.place x (rw c.deref.ensures.value at c.in-Some.ensures.within)
     c.index_mut-entry.ensures.value in
-    let found : object_at objects n ≡ Some x =
-    sym (rw c.deref.ensures.value at c.in-Some.ensures.some) ∙ here in
+    let found = sym (rw c.deref.ensures.value at c.in-Some.ensures.some) ∙ here in
     let is = found_stands all n x found in
     let there = standing_at all c.in-Some.place x here is in
     let place = place_in all c.in-Some.place in
@@ -62,11 +53,9 @@ unpin_by_access-requires-clause-held g c =
     let objects = standing all in
     let n = c.args.run.number in
     let x = c.index_mut-entry.result.now in
-    let here : slice_get all c.in-Some.place ≡ Some x =
-    slice_get_read all (length all) c.in-Some.place x refl (rw c.deref.ensures.value at c.in-Some.ensures.within)
+    let here = read_at all c.in-Some.place x (rw c.deref.ensures.value at c.in-Some.ensures.within)
     c.index_mut-entry.ensures.value in
-    let found : object_at objects n ≡ Some x =
-    sym (rw c.deref.ensures.value at c.in-Some.ensures.some) ∙ here in
+    let found = sym (rw c.deref.ensures.value at c.in-Some.ensures.some) ∙ here in
     let is = found_stands all n x found in
     let there = standing_at all c.in-Some.place x here is in
     let place = place_in all c.in-Some.place in
@@ -78,11 +67,9 @@ unpin_by_access-requires-clause-holds g c =
     let objects = standing all in
     let n = c.args.run.number in
     let x = c.index_mut-entry.result.now in
-    let here : slice_get all c.in-Some.place ≡ Some x =
-    slice_get_read all (length all) c.in-Some.place x refl (rw c.deref.ensures.value at c.in-Some.ensures.within)
+    let here = read_at all c.in-Some.place x (rw c.deref.ensures.value at c.in-Some.ensures.within)
     c.index_mut-entry.ensures.value in
-    let found : object_at objects n ≡ Some x =
-    sym (rw c.deref.ensures.value at c.in-Some.ensures.some) ∙ here in
+    let found = sym (rw c.deref.ensures.value at c.in-Some.ensures.some) ∙ here in
     let is = found_stands all n x found in
     let there = standing_at all c.in-Some.place x here is in
     let place = place_in all c.in-Some.place in
@@ -94,11 +81,9 @@ returns-clause-objects g c =
     let objects = standing all in
     let n = c.args.run.number in
     let x = c.index_mut-entry.result.now in
-    let here : slice_get all c.in-Some.place ≡ Some x =
-    slice_get_read all (length all) c.in-Some.place x refl (rw c.deref.ensures.value at c.in-Some.ensures.within)
+    let here = read_at all c.in-Some.place x (rw c.deref.ensures.value at c.in-Some.ensures.within)
     c.index_mut-entry.ensures.value in
-    let found : object_at objects n ≡ Some x =
-    sym (rw c.deref.ensures.value at c.in-Some.ensures.some) ∙ here in
+    let found = sym (rw c.deref.ensures.value at c.in-Some.ensures.some) ∙ here in
     let is = found_stands all n x found in
     let there = standing_at all c.in-Some.place x here is in
     let place = place_in all c.in-Some.place in
@@ -121,11 +106,9 @@ returns-clause-rows g c =
     let objects = standing all in
     let n = c.args.run.number in
     let x = c.index_mut-entry.result.now in
-    let here : slice_get all c.in-Some.place ≡ Some x =
-    slice_get_read all (length all) c.in-Some.place x refl (rw c.deref.ensures.value at c.in-Some.ensures.within)
+    let here = read_at all c.in-Some.place x (rw c.deref.ensures.value at c.in-Some.ensures.within)
     c.index_mut-entry.ensures.value in
-    let found : object_at objects n ≡ Some x =
-    sym (rw c.deref.ensures.value at c.in-Some.ensures.some) ∙ here in
+    let found = sym (rw c.deref.ensures.value at c.in-Some.ensures.some) ∙ here in
     let is = found_stands all n x found in
     let there = standing_at all c.in-Some.place x here is in
     let place = place_in all c.in-Some.place in
@@ -141,11 +124,9 @@ returns-clause-kept g c kept =
     let objects = standing all in
     let n = c.args.run.number in
     let x = c.index_mut-entry.result.now in
-    let here : slice_get all c.in-Some.place ≡ Some x =
-    slice_get_read all (length all) c.in-Some.place x refl (rw c.deref.ensures.value at c.in-Some.ensures.within)
+    let here = read_at all c.in-Some.place x (rw c.deref.ensures.value at c.in-Some.ensures.within)
     c.index_mut-entry.ensures.value in
-    let found : object_at objects n ≡ Some x =
-    sym (rw c.deref.ensures.value at c.in-Some.ensures.some) ∙ here in
+    let found = sym (rw c.deref.ensures.value at c.in-Some.ensures.some) ∙ here in
     let is = found_stands all n x found in
     let there = standing_at all c.in-Some.place x here is in
     let place = place_in all c.in-Some.place in
@@ -162,11 +143,9 @@ returns-clause-gone g c =
     let objects = standing all in
     let n = c.args.run.number in
     let x = c.index_mut-entry.result.now in
-    let here : slice_get all c.in-Some.place ≡ Some x =
-    slice_get_read all (length all) c.in-Some.place x refl (rw c.deref.ensures.value at c.in-Some.ensures.within)
+    let here = read_at all c.in-Some.place x (rw c.deref.ensures.value at c.in-Some.ensures.within)
     c.index_mut-entry.ensures.value in
-    let found : object_at objects n ≡ Some x =
-    sym (rw c.deref.ensures.value at c.in-Some.ensures.some) ∙ here in
+    let found = sym (rw c.deref.ensures.value at c.in-Some.ensures.some) ∙ here in
     let is = found_stands all n x found in
     gone_set all c.in-Some.place x (record { number = x.number; areas = x.areas; pages = c.unpin_by_access.new.self })
     here is is
@@ -174,14 +153,9 @@ returns-clause-gone g c =
 pub returns-clause-rising : goal.returns-clause-rising
 returns-clause-rising g c =
     let all = c.args.entries.now.items in
-    let objects = standing all in
-    let n = c.args.run.number in
     let x = c.index_mut-entry.result.now in
-    let here : slice_get all c.in-Some.place ≡ Some x =
-    slice_get_read all (length all) c.in-Some.place x refl (rw c.deref.ensures.value at c.in-Some.ensures.within)
+    let here = read_at all c.in-Some.place x (rw c.deref.ensures.value at c.in-Some.ensures.within)
     c.index_mut-entry.ensures.value in
-    let found : object_at objects n ≡ Some x =
-    sym (rw c.deref.ensures.value at c.in-Some.ensures.some) ∙ here in
     rising_set all c.in-Some.place x (record { number = x.number; areas = x.areas; pages = c.unpin_by_access.new.self })
     c.requires.rising here refl
 
@@ -191,18 +165,15 @@ returns-clause-pool g c =
     let objects = standing all in
     let n = c.args.run.number in
     let x = c.index_mut-entry.result.now in
-    let here : slice_get all c.in-Some.place ≡ Some x =
-    slice_get_read all (length all) c.in-Some.place x refl (rw c.deref.ensures.value at c.in-Some.ensures.within)
+    let here = read_at all c.in-Some.place x (rw c.deref.ensures.value at c.in-Some.ensures.within)
     c.index_mut-entry.ensures.value in
-    let found : object_at objects n ≡ Some x =
-    sym (rw c.deref.ensures.value at c.in-Some.ensures.some) ∙ here in
+    let found = sym (rw c.deref.ensures.value at c.in-Some.ensures.some) ∙ here in
     let is = found_stands all n x found in
     let there = standing_at all c.in-Some.place x here is in
     let place = place_in all c.in-Some.place in
     let new = c.unpin_by_access.new.self in
     let y : MemoryEntry = record { number = x.number; areas = x.areas; pages = new } in
     let changed = standing_set all c.in-Some.place x y here is is in
-    let rising = rising_left stands all c.requires.rising in
     let H : List MemoryEntry → Type 0 = λ xs. HoldsMove objects xs c.args.pool.now c.unpin_by_access.new.pool in
     subst H (sym changed) (holds_taken objects place x y there c.args.pool.now c.unpin_by_access.new.pool
     (gone_frames x.pages.pages c.args.run.first c.args.run.count) c.unpin_by_access.ensures.pool
@@ -214,11 +185,9 @@ returns-clause-accounts g c =
     let objects = standing all in
     let n = c.args.run.number in
     let x = c.index_mut-entry.result.now in
-    let here : slice_get all c.in-Some.place ≡ Some x =
-    slice_get_read all (length all) c.in-Some.place x refl (rw c.deref.ensures.value at c.in-Some.ensures.within)
+    let here = read_at all c.in-Some.place x (rw c.deref.ensures.value at c.in-Some.ensures.within)
     c.index_mut-entry.ensures.value in
-    let found : object_at objects n ≡ Some x =
-    sym (rw c.deref.ensures.value at c.in-Some.ensures.some) ∙ here in
+    let found = sym (rw c.deref.ensures.value at c.in-Some.ensures.some) ∙ here in
     let is = found_stands all n x found in
     let there = standing_at all c.in-Some.place x here is in
     let place = place_in all c.in-Some.place in
@@ -234,3 +203,43 @@ returns-clause-accounts g c =
     (same_user objects n place x new rising there found c.unpin_by_access.ensures.pages.same) known
     (gone_count x.pages.pages c.args.run.first c.args.run.count) c.unpin_by_access.ensures.accounts
     c.unpin_by_access.ensures.count (omega (arith, held, c.unpin_by_access.ensures.count)))
+
+pub place_of-requires : goal.place_of-requires
+place_of-requires g c = rw c.deref.ensures.value c.requires.rising
+
+pub index_mut-entry-requires : goal.index_mut-entry-requires
+index_mut-entry-requires g c = rw c.deref.ensures.len at c.in-Some.ensures.within
+
+pub returns-in_default-clause-objects : goal.returns-in_default-clause-objects
+returns-in_default-clause-objects g c = absurd (lies_nowhere c.args.run (object_at (standing c.args.entries.now.items) c.args.run.number)
+    c.requires.has.lies (rw c.deref.ensures.value at c.in_default.ensures.none))
+
+pub returns-in_default-clause-rows : goal.returns-in_default-clause-rows
+returns-in_default-clause-rows g c = refl
+
+pub returns-in_default-clause-kept : goal.returns-in_default-clause-kept
+returns-in_default-clause-kept g c kept = kept
+
+pub returns-in_default-clause-gone : goal.returns-in_default-clause-gone
+returns-in_default-clause-gone g c = refl
+
+pub returns-in_default-clause-rising : goal.returns-in_default-clause-rising
+returns-in_default-clause-rising g c = c.requires.rising
+
+pub returns-in_default-clause-len : goal.returns-in_default-clause-len
+returns-in_default-clause-len g c = refl
+
+pub returns-in_default-clause-capacity : goal.returns-in_default-clause-capacity
+returns-in_default-clause-capacity g c = refl
+
+pub returns-in_default-clause-pool : goal.returns-in_default-clause-pool
+returns-in_default-clause-pool g c = holds_stay (standing c.args.entries.now.items) c.args.pool.now
+
+pub returns-in_default-clause-accounts : goal.returns-in_default-clause-accounts
+returns-in_default-clause-accounts g c = accounts_stay (standing c.args.entries.now.items) c.args.accounts.now
+
+pub returns-clause-len : goal.returns-clause-len
+returns-clause-len g c = refl
+
+pub returns-clause-capacity : goal.returns-clause-capacity
+returns-clause-capacity g c = refl

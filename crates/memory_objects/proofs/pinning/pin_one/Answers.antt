@@ -1,15 +1,13 @@
-use Rattle.std.proofs.Common.{◌≡◌, ◌∙◌, List, Some, subst, length, refl, sym, ap, arith}
-use Rattle.std.specs.List.{slice_get}
-use Rattle.std.proofs.lemmas.Option.{slice_get_read}
+use Rattle.std.proofs.Common.{◌∙◌, List, subst, refl, sym, ap, arith}
 use Rattle.memory_objects.specs.Backed.{AccountsMove, HoldsMove}
-use Rattle.memory_objects.specs.Objects.{MemoryEntry, object_at, standing}
+use Rattle.memory_objects.specs.Objects.{MemoryEntry, standing}
 use Rattle.pinned_pages.specs.Pages.{ObjectPages, new_frames}
 use Rattle.memory_objects.proofs.Moved.{accounts_charged, holds_added}
 use Rattle.memory_objects.proofs.PinOne.{its_areas, its_holds, its_memory, its_refusal, its_user, none_pinned}
 use Rattle.memory_objects.proofs.PinOne.{set_pinned}
 use Rattle.memory_objects.proofs.AreaCounts.{rising_left}
 use Rattle.memory_objects.proofs.Gone.{gone_set}
-use Rattle.memory_objects.proofs.Standing.{found_stands, place_in, rising_set, standing_at, standing_set, stands}
+use Rattle.memory_objects.proofs.Standing.{found_stands, place_in, read_at, rising_set, standing_at, standing_set, stands}
 use Rattle.memory_objects.proofs.pinning.pin_one.Goals as goal
 
 pub prove-unreachable-requires : goal.prove-unreachable-requires
@@ -17,11 +15,9 @@ prove-unreachable-requires g c =
     let all = c.args.entries.now.items in
     let objects = standing all in
     let x = c.index_mut-entry.result.now in
-    let here : slice_get all c.in-Some.place ≡ Some x =
-    slice_get_read all (length all) c.in-Some.place x refl (rw c.deref.ensures.value at c.in-Some.ensures.within)
+    let here = read_at all c.in-Some.place x (rw c.deref.ensures.value at c.in-Some.ensures.within)
     c.index_mut-entry.ensures.value in
-    let found : object_at objects c.args.number ≡ Some x =
-    sym (rw c.deref.ensures.value at c.in-Some.ensures.some) ∙ here in
+    let found = sym (rw c.deref.ensures.value at c.in-Some.ensures.some) ∙ here in
     let is = found_stands all c.args.number x found in
     let there = standing_at all c.in-Some.place x here is in
     let fewer = its_areas objects c.args.number (place_in all c.in-Some.place) x c.args.users.now.pages
@@ -33,11 +29,9 @@ pin_reserved-requires-clause-user g c =
     let all = c.args.entries.now.items in
     let objects = standing all in
     let x = c.index_mut-entry.result.now in
-    let here : slice_get all c.in-Some.place ≡ Some x =
-    slice_get_read all (length all) c.in-Some.place x refl (rw c.deref.ensures.value at c.in-Some.ensures.within)
+    let here = read_at all c.in-Some.place x (rw c.deref.ensures.value at c.in-Some.ensures.within)
     c.index_mut-entry.ensures.value in
-    let found : object_at objects c.args.number ≡ Some x =
-    sym (rw c.deref.ensures.value at c.in-Some.ensures.some) ∙ here in
+    let found = sym (rw c.deref.ensures.value at c.in-Some.ensures.some) ∙ here in
     let is = found_stands all c.args.number x found in
     let there = standing_at all c.in-Some.place x here is in
     its_user objects c.args.number (place_in all c.in-Some.place) x c.args.users.now.pages c.args.pool.now.holds
@@ -48,11 +42,9 @@ pin_reserved-requires-clause-holds g c =
     let all = c.args.entries.now.items in
     let objects = standing all in
     let x = c.index_mut-entry.result.now in
-    let here : slice_get all c.in-Some.place ≡ Some x =
-    slice_get_read all (length all) c.in-Some.place x refl (rw c.deref.ensures.value at c.in-Some.ensures.within)
+    let here = read_at all c.in-Some.place x (rw c.deref.ensures.value at c.in-Some.ensures.within)
     c.index_mut-entry.ensures.value in
-    let found : object_at objects c.args.number ≡ Some x =
-    sym (rw c.deref.ensures.value at c.in-Some.ensures.some) ∙ here in
+    let found = sym (rw c.deref.ensures.value at c.in-Some.ensures.some) ∙ here in
     let is = found_stands all c.args.number x found in
     let there = standing_at all c.in-Some.place x here is in
     λ first. its_holds objects c.args.number (place_in all c.in-Some.place) x c.args.users.now.pages
@@ -64,11 +56,9 @@ pin_reserved-requires-clause-granted g c =
     let all = c.args.entries.now.items in
     let objects = standing all in
     let x = c.index_mut-entry.result.now in
-    let here : slice_get all c.in-Some.place ≡ Some x =
-    slice_get_read all (length all) c.in-Some.place x refl (rw c.deref.ensures.value at c.in-Some.ensures.within)
+    let here = read_at all c.in-Some.place x (rw c.deref.ensures.value at c.in-Some.ensures.within)
     c.index_mut-entry.ensures.value in
-    let found : object_at objects c.args.number ≡ Some x =
-    sym (rw c.deref.ensures.value at c.in-Some.ensures.some) ∙ here in
+    let found = sym (rw c.deref.ensures.value at c.in-Some.ensures.some) ∙ here in
     let is = found_stands all c.args.number x found in
     let there = standing_at all c.in-Some.place x here is in
     its_refusal objects c.args.number (place_in all c.in-Some.place) x c.args.users.now.pages c.args.pool.now.holds
@@ -79,11 +69,9 @@ pin_reserved-requires-clause-memory g c =
     let all = c.args.entries.now.items in
     let objects = standing all in
     let x = c.index_mut-entry.result.now in
-    let here : slice_get all c.in-Some.place ≡ Some x =
-    slice_get_read all (length all) c.in-Some.place x refl (rw c.deref.ensures.value at c.in-Some.ensures.within)
+    let here = read_at all c.in-Some.place x (rw c.deref.ensures.value at c.in-Some.ensures.within)
     c.index_mut-entry.ensures.value in
-    let found : object_at objects c.args.number ≡ Some x =
-    sym (rw c.deref.ensures.value at c.in-Some.ensures.some) ∙ here in
+    let found = sym (rw c.deref.ensures.value at c.in-Some.ensures.some) ∙ here in
     let is = found_stands all c.args.number x found in
     let there = standing_at all c.in-Some.place x here is in
     its_memory objects c.args.number (place_in all c.in-Some.place) x c.args.users.now.pages c.args.pool.now.holds
@@ -94,11 +82,9 @@ returns-in-Some-clause-entries g c =
     let all = c.args.entries.now.items in
     let objects = standing all in
     let x = c.index_mut-entry.result.now in
-    let here : slice_get all c.in-Some.place ≡ Some x =
-    slice_get_read all (length all) c.in-Some.place x refl (rw c.deref.ensures.value at c.in-Some.ensures.within)
+    let here = read_at all c.in-Some.place x (rw c.deref.ensures.value at c.in-Some.ensures.within)
     c.index_mut-entry.ensures.value in
-    let found : object_at objects c.args.number ≡ Some x =
-    sym (rw c.deref.ensures.value at c.in-Some.ensures.some) ∙ here in
+    let found = sym (rw c.deref.ensures.value at c.in-Some.ensures.some) ∙ here in
     let is = found_stands all c.args.number x found in
     let there = standing_at all c.in-Some.place x here is in
     let y : MemoryEntry = record { number = x.number; areas = x.areas; pages = c.pin_reserved.new.self } in
@@ -112,11 +98,9 @@ returns-in-Some-clause-pool g c =
     let all = c.args.entries.now.items in
     let objects = standing all in
     let x = c.index_mut-entry.result.now in
-    let here : slice_get all c.in-Some.place ≡ Some x =
-    slice_get_read all (length all) c.in-Some.place x refl (rw c.deref.ensures.value at c.in-Some.ensures.within)
+    let here = read_at all c.in-Some.place x (rw c.deref.ensures.value at c.in-Some.ensures.within)
     c.index_mut-entry.ensures.value in
-    let found : object_at objects c.args.number ≡ Some x =
-    sym (rw c.deref.ensures.value at c.in-Some.ensures.some) ∙ here in
+    let found = sym (rw c.deref.ensures.value at c.in-Some.ensures.some) ∙ here in
     let is = found_stands all c.args.number x found in
     let there = standing_at all c.in-Some.place x here is in
     let y : MemoryEntry = record { number = x.number; areas = x.areas; pages = c.pin_reserved.new.self } in
@@ -131,11 +115,9 @@ returns-in-Some-clause-accounts g c =
     let all = c.args.entries.now.items in
     let objects = standing all in
     let x = c.index_mut-entry.result.now in
-    let here : slice_get all c.in-Some.place ≡ Some x =
-    slice_get_read all (length all) c.in-Some.place x refl (rw c.deref.ensures.value at c.in-Some.ensures.within)
+    let here = read_at all c.in-Some.place x (rw c.deref.ensures.value at c.in-Some.ensures.within)
     c.index_mut-entry.ensures.value in
-    let found : object_at objects c.args.number ≡ Some x =
-    sym (rw c.deref.ensures.value at c.in-Some.ensures.some) ∙ here in
+    let found = sym (rw c.deref.ensures.value at c.in-Some.ensures.some) ∙ here in
     let is = found_stands all c.args.number x found in
     let there = standing_at all c.in-Some.place x here is in
     let y : MemoryEntry = record { number = x.number; areas = x.areas; pages = c.pin_reserved.new.self } in
@@ -156,8 +138,7 @@ pub returns-in-Some-clause-rising : goal.returns-in-Some-clause-rising
 returns-in-Some-clause-rising g c =
     let all = c.args.entries.now.items in
     let x = c.index_mut-entry.result.now in
-    let here : slice_get all c.in-Some.place ≡ Some x =
-    slice_get_read all (length all) c.in-Some.place x refl (rw c.deref.ensures.value at c.in-Some.ensures.within)
+    let here = read_at all c.in-Some.place x (rw c.deref.ensures.value at c.in-Some.ensures.within)
     c.index_mut-entry.ensures.value in
     rising_set all c.in-Some.place x (record { number = x.number; areas = x.areas; pages = c.pin_reserved.new.self })
     c.requires.rising here refl
@@ -166,11 +147,9 @@ pub returns-in-Some-clause-gone : goal.returns-in-Some-clause-gone
 returns-in-Some-clause-gone g c =
     let all = c.args.entries.now.items in
     let x = c.index_mut-entry.result.now in
-    let here : slice_get all c.in-Some.place ≡ Some x =
-    slice_get_read all (length all) c.in-Some.place x refl (rw c.deref.ensures.value at c.in-Some.ensures.within)
+    let here = read_at all c.in-Some.place x (rw c.deref.ensures.value at c.in-Some.ensures.within)
     c.index_mut-entry.ensures.value in
-    let found : object_at (standing all) c.args.number ≡ Some x =
-    sym (rw c.deref.ensures.value at c.in-Some.ensures.some) ∙ here in
+    let found = sym (rw c.deref.ensures.value at c.in-Some.ensures.some) ∙ here in
     let is = found_stands all c.args.number x found in
     let y : MemoryEntry = record { number = x.number; areas = x.areas; pages = c.pin_reserved.new.self } in
     gone_set all c.in-Some.place x y here is is

@@ -1,15 +1,13 @@
-use Rattle.std.proofs.Common.{◌≡◌, ◌∙◌, List, Some, subst, length, refl, sym, ap}
-use Rattle.std.specs.List.{slice_get}
-use Rattle.std.proofs.lemmas.Option.{slice_get_read}
+use Rattle.std.proofs.Common.{◌∙◌, List, subst, refl, sym, ap}
 use Rattle.memory_objects.specs.Backed.{AccountsMove, HoldsMove}
-use Rattle.memory_objects.specs.Objects.{MemoryEntry, object_at, standing}
+use Rattle.memory_objects.specs.Objects.{MemoryEntry, standing}
 use Rattle.pinned_pages.specs.Pages.{ObjectPages, last_frames}
 use Rattle.memory_objects.proofs.Moved.{accounts_refunded, holds_taken}
 use Rattle.memory_objects.proofs.Unpinned.{its_frames, its_held, its_last, its_pins, its_user, none_unpinned}
 use Rattle.memory_objects.proofs.Unpinned.{set_unpinned}
 use Rattle.memory_objects.proofs.AreaCounts.{rising_left}
 use Rattle.memory_objects.proofs.Gone.{gone_set}
-use Rattle.memory_objects.proofs.Standing.{found_stands, place_in, rising_set, standing_at, standing_set, stands}
+use Rattle.memory_objects.proofs.Standing.{found_stands, place_in, read_at, rising_set, standing_at, standing_set, stands}
 use Rattle.memory_objects.proofs.pinning.unpin_one.Goals as goal
 
 pub unpin_by_table-requires-clause-some : goal.unpin_by_table-requires-clause-some
@@ -17,11 +15,9 @@ unpin_by_table-requires-clause-some g c =
     let all = c.args.entries.now.items in
     let objects = standing all in
     let x = c.index_mut-entry.result.now in
-    let here : slice_get all c.in-Some.place ≡ Some x =
-    slice_get_read all (length all) c.in-Some.place x refl (rw c.deref.ensures.value at c.in-Some.ensures.within)
+    let here = read_at all c.in-Some.place x (rw c.deref.ensures.value at c.in-Some.ensures.within)
     c.index_mut-entry.ensures.value in
-    let found : object_at objects c.args.number ≡ Some x =
-    sym (rw c.deref.ensures.value at c.in-Some.ensures.some) ∙ here in
+    let found = sym (rw c.deref.ensures.value at c.in-Some.ensures.some) ∙ here in
     let is = found_stands all c.args.number x found in
     let there = standing_at all c.in-Some.place x here is in
     its_pins objects c.args.number (place_in all c.in-Some.place) x c.args.pool.now.holds c.args.accounts.now
@@ -32,11 +28,9 @@ unpin_by_table-requires-clause-user g c =
     let all = c.args.entries.now.items in
     let objects = standing all in
     let x = c.index_mut-entry.result.now in
-    let here : slice_get all c.in-Some.place ≡ Some x =
-    slice_get_read all (length all) c.in-Some.place x refl (rw c.deref.ensures.value at c.in-Some.ensures.within)
+    let here = read_at all c.in-Some.place x (rw c.deref.ensures.value at c.in-Some.ensures.within)
     c.index_mut-entry.ensures.value in
-    let found : object_at objects c.args.number ≡ Some x =
-    sym (rw c.deref.ensures.value at c.in-Some.ensures.some) ∙ here in
+    let found = sym (rw c.deref.ensures.value at c.in-Some.ensures.some) ∙ here in
     let is = found_stands all c.args.number x found in
     let there = standing_at all c.in-Some.place x here is in
     its_user objects c.args.number (place_in all c.in-Some.place) x c.args.pool.now.holds c.args.accounts.now
@@ -47,11 +41,9 @@ unpin_by_table-requires-clause-held g c =
     let all = c.args.entries.now.items in
     let objects = standing all in
     let x = c.index_mut-entry.result.now in
-    let here : slice_get all c.in-Some.place ≡ Some x =
-    slice_get_read all (length all) c.in-Some.place x refl (rw c.deref.ensures.value at c.in-Some.ensures.within)
+    let here = read_at all c.in-Some.place x (rw c.deref.ensures.value at c.in-Some.ensures.within)
     c.index_mut-entry.ensures.value in
-    let found : object_at objects c.args.number ≡ Some x =
-    sym (rw c.deref.ensures.value at c.in-Some.ensures.some) ∙ here in
+    let found = sym (rw c.deref.ensures.value at c.in-Some.ensures.some) ∙ here in
     let is = found_stands all c.args.number x found in
     let there = standing_at all c.in-Some.place x here is in
     λ last. its_held objects c.args.number (place_in all c.in-Some.place) x c.args.pool.now.holds c.args.accounts.now
@@ -62,11 +54,9 @@ unpin_by_table-requires-clause-holds g c =
     let all = c.args.entries.now.items in
     let objects = standing all in
     let x = c.index_mut-entry.result.now in
-    let here : slice_get all c.in-Some.place ≡ Some x =
-    slice_get_read all (length all) c.in-Some.place x refl (rw c.deref.ensures.value at c.in-Some.ensures.within)
+    let here = read_at all c.in-Some.place x (rw c.deref.ensures.value at c.in-Some.ensures.within)
     c.index_mut-entry.ensures.value in
-    let found : object_at objects c.args.number ≡ Some x =
-    sym (rw c.deref.ensures.value at c.in-Some.ensures.some) ∙ here in
+    let found = sym (rw c.deref.ensures.value at c.in-Some.ensures.some) ∙ here in
     let is = found_stands all c.args.number x found in
     let there = standing_at all c.in-Some.place x here is in
     λ last. its_frames objects c.args.number (place_in all c.in-Some.place) x c.args.pool.now.holds c.args.accounts.now
@@ -77,11 +67,9 @@ returns-in-Some-clause-entries g c =
     let all = c.args.entries.now.items in
     let objects = standing all in
     let x = c.index_mut-entry.result.now in
-    let here : slice_get all c.in-Some.place ≡ Some x =
-    slice_get_read all (length all) c.in-Some.place x refl (rw c.deref.ensures.value at c.in-Some.ensures.within)
+    let here = read_at all c.in-Some.place x (rw c.deref.ensures.value at c.in-Some.ensures.within)
     c.index_mut-entry.ensures.value in
-    let found : object_at objects c.args.number ≡ Some x =
-    sym (rw c.deref.ensures.value at c.in-Some.ensures.some) ∙ here in
+    let found = sym (rw c.deref.ensures.value at c.in-Some.ensures.some) ∙ here in
     let is = found_stands all c.args.number x found in
     let there = standing_at all c.in-Some.place x here is in
     let some = its_pins objects c.args.number (place_in all c.in-Some.place) x c.args.pool.now.holds c.args.accounts.now
@@ -97,11 +85,9 @@ returns-in-Some-clause-pool g c =
     let all = c.args.entries.now.items in
     let objects = standing all in
     let x = c.index_mut-entry.result.now in
-    let here : slice_get all c.in-Some.place ≡ Some x =
-    slice_get_read all (length all) c.in-Some.place x refl (rw c.deref.ensures.value at c.in-Some.ensures.within)
+    let here = read_at all c.in-Some.place x (rw c.deref.ensures.value at c.in-Some.ensures.within)
     c.index_mut-entry.ensures.value in
-    let found : object_at objects c.args.number ≡ Some x =
-    sym (rw c.deref.ensures.value at c.in-Some.ensures.some) ∙ here in
+    let found = sym (rw c.deref.ensures.value at c.in-Some.ensures.some) ∙ here in
     let is = found_stands all c.args.number x found in
     let there = standing_at all c.in-Some.place x here is in
     let y : MemoryEntry = record { number = x.number; areas = x.areas; pages = c.unpin_by_table.new.self } in
@@ -116,11 +102,9 @@ returns-in-Some-clause-accounts g c =
     let all = c.args.entries.now.items in
     let objects = standing all in
     let x = c.index_mut-entry.result.now in
-    let here : slice_get all c.in-Some.place ≡ Some x =
-    slice_get_read all (length all) c.in-Some.place x refl (rw c.deref.ensures.value at c.in-Some.ensures.within)
+    let here = read_at all c.in-Some.place x (rw c.deref.ensures.value at c.in-Some.ensures.within)
     c.index_mut-entry.ensures.value in
-    let found : object_at objects c.args.number ≡ Some x =
-    sym (rw c.deref.ensures.value at c.in-Some.ensures.some) ∙ here in
+    let found = sym (rw c.deref.ensures.value at c.in-Some.ensures.some) ∙ here in
     let is = found_stands all c.args.number x found in
     let there = standing_at all c.in-Some.place x here is in
     let y : MemoryEntry = record { number = x.number; areas = x.areas; pages = c.unpin_by_table.new.self } in
@@ -144,8 +128,7 @@ pub returns-in-Some-clause-rising : goal.returns-in-Some-clause-rising
 returns-in-Some-clause-rising g c =
     let all = c.args.entries.now.items in
     let x = c.index_mut-entry.result.now in
-    let here : slice_get all c.in-Some.place ≡ Some x =
-    slice_get_read all (length all) c.in-Some.place x refl (rw c.deref.ensures.value at c.in-Some.ensures.within)
+    let here = read_at all c.in-Some.place x (rw c.deref.ensures.value at c.in-Some.ensures.within)
     c.index_mut-entry.ensures.value in
     rising_set all c.in-Some.place x (record { number = x.number; areas = x.areas; pages = c.unpin_by_table.new.self })
     c.requires.rising here refl
@@ -154,11 +137,9 @@ pub returns-in-Some-clause-gone : goal.returns-in-Some-clause-gone
 returns-in-Some-clause-gone g c =
     let all = c.args.entries.now.items in
     let x = c.index_mut-entry.result.now in
-    let here : slice_get all c.in-Some.place ≡ Some x =
-    slice_get_read all (length all) c.in-Some.place x refl (rw c.deref.ensures.value at c.in-Some.ensures.within)
+    let here = read_at all c.in-Some.place x (rw c.deref.ensures.value at c.in-Some.ensures.within)
     c.index_mut-entry.ensures.value in
-    let found : object_at (standing all) c.args.number ≡ Some x =
-    sym (rw c.deref.ensures.value at c.in-Some.ensures.some) ∙ here in
+    let found = sym (rw c.deref.ensures.value at c.in-Some.ensures.some) ∙ here in
     let is = found_stands all c.args.number x found in
     let y : MemoryEntry = record { number = x.number; areas = x.areas; pages = c.unpin_by_table.new.self } in
     gone_set all c.in-Some.place x y here is is

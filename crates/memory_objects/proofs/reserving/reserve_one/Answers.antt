@@ -1,12 +1,10 @@
-use Rattle.std.proofs.Common.{◌≡◌, ◌∙◌, List, Some, true, subst, length, refl, sym}
-use Rattle.std.specs.List.{slice_get}
-use Rattle.std.proofs.lemmas.Option.{slice_get_read}
+use Rattle.std.proofs.Common.{◌≡◌, ◌∙◌, List, true, subst, refl, sym}
 use Rattle.std.proofs.lemmas.Result.{on_err_weaker, on_ok_weaker}
 use Rattle.memory_objects.specs.Objects.{MemoryEntry, MemoryGrows, has_memory, object_at, passes, standing}
 use Rattle.memory_objects.proofs.Reserved.{enough_now, grows_none, grows_one, lacked_before}
 use Rattle.memory_objects.proofs.AreaCounts.{rising_left}
 use Rattle.memory_objects.proofs.Gone.{gone_set}
-use Rattle.memory_objects.proofs.Standing.{found_stands, place_in, rising_set, standing_at, standing_set, stands}
+use Rattle.memory_objects.proofs.Standing.{found_at, found_stands, place_in, read_at, rising_set, standing_at, standing_set, stands}
 use Rattle.memory_objects.proofs.reserving.reserve_one.Goals as goal
 
 pub returns-in-Some-clause-objects : goal.returns-in-Some-clause-objects
@@ -14,11 +12,9 @@ returns-in-Some-clause-objects g c =
     let all = c.args.entries.now.items in
     let objects = standing all in
     let x = c.index_mut-entry.result.now in
-    let here : slice_get all c.in-Some.place ≡ Some x =
-    slice_get_read all (length all) c.in-Some.place x refl (rw c.deref.ensures.value at c.in-Some.ensures.within)
+    let here = read_at all c.in-Some.place x (rw c.deref.ensures.value at c.in-Some.ensures.within)
     c.index_mut-entry.ensures.value in
-    let found : object_at objects c.args.number ≡ Some x =
-    sym (rw c.deref.ensures.value at c.in-Some.ensures.some) ∙ here in
+    let found = sym (rw c.deref.ensures.value at c.in-Some.ensures.some) ∙ here in
     let is = found_stands all c.args.number x found in
     let there = standing_at all c.in-Some.place x here is in
     let y : MemoryEntry = record { number = x.number; areas = x.areas; pages = c.reserve.new.self } in
@@ -33,11 +29,9 @@ returns-in-Some-clause-ok g c =
     let all = c.args.entries.now.items in
     let objects = standing all in
     let x = c.index_mut-entry.result.now in
-    let here : slice_get all c.in-Some.place ≡ Some x =
-    slice_get_read all (length all) c.in-Some.place x refl (rw c.deref.ensures.value at c.in-Some.ensures.within)
+    let here = read_at all c.in-Some.place x (rw c.deref.ensures.value at c.in-Some.ensures.within)
     c.index_mut-entry.ensures.value in
-    let found : object_at objects c.args.number ≡ Some x =
-    sym (rw c.deref.ensures.value at c.in-Some.ensures.some) ∙ here in
+    let found = sym (rw c.deref.ensures.value at c.in-Some.ensures.some) ∙ here in
     let is = found_stands all c.args.number x found in
     let there = standing_at all c.in-Some.place x here is in
     let y : MemoryEntry = record { number = x.number; areas = x.areas; pages = c.reserve.new.self } in
@@ -53,13 +47,8 @@ returns-in-Some-clause-err g c =
     let all = c.args.entries.now.items in
     let objects = standing all in
     let x = c.index_mut-entry.result.now in
-    let here : slice_get all c.in-Some.place ≡ Some x =
-    slice_get_read all (length all) c.in-Some.place x refl (rw c.deref.ensures.value at c.in-Some.ensures.within)
-    c.index_mut-entry.ensures.value in
-    let found : object_at objects c.args.number ≡ Some x =
-    sym (rw c.deref.ensures.value at c.in-Some.ensures.some) ∙ here in
-    let is = found_stands all c.args.number x found in
-    let there = standing_at all c.in-Some.place x here is in
+    let found = found_at all c.in-Some.place c.args.number x (rw c.deref.ensures.value at c.in-Some.ensures.within)
+    c.index_mut-entry.ensures.value (rw c.deref.ensures.value at c.in-Some.ensures.some) in
     on_err_weaker c.reserve.result (lacked_before objects c.args.number x found) c.reserve.ensures.full
 
 pub returns-in-None-clause-objects : goal.returns-in-None-clause-objects
@@ -69,8 +58,7 @@ pub returns-in-Some-clause-rising : goal.returns-in-Some-clause-rising
 returns-in-Some-clause-rising g c =
     let all = c.args.entries.now.items in
     let x = c.index_mut-entry.result.now in
-    let here : slice_get all c.in-Some.place ≡ Some x =
-    slice_get_read all (length all) c.in-Some.place x refl (rw c.deref.ensures.value at c.in-Some.ensures.within)
+    let here = read_at all c.in-Some.place x (rw c.deref.ensures.value at c.in-Some.ensures.within)
     c.index_mut-entry.ensures.value in
     rising_set all c.in-Some.place x (record {
       number = x.number;
@@ -82,11 +70,9 @@ pub returns-in-Some-clause-gone : goal.returns-in-Some-clause-gone
 returns-in-Some-clause-gone g c =
     let all = c.args.entries.now.items in
     let x = c.index_mut-entry.result.now in
-    let here : slice_get all c.in-Some.place ≡ Some x =
-    slice_get_read all (length all) c.in-Some.place x refl (rw c.deref.ensures.value at c.in-Some.ensures.within)
+    let here = read_at all c.in-Some.place x (rw c.deref.ensures.value at c.in-Some.ensures.within)
     c.index_mut-entry.ensures.value in
-    let found : object_at (standing all) c.args.number ≡ Some x =
-    sym (rw c.deref.ensures.value at c.in-Some.ensures.some) ∙ here in
+    let found = sym (rw c.deref.ensures.value at c.in-Some.ensures.some) ∙ here in
     let is = found_stands all c.args.number x found in
     let y : MemoryEntry = record { number = x.number; areas = x.areas; pages = c.reserve.new.self } in
     gone_set all c.in-Some.place x y here is is

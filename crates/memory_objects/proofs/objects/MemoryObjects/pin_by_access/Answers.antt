@@ -1,6 +1,9 @@
 use Rattle.std.proofs.Common.{◌≡◌, ◌∙◌, ◌+◌, cond, true, length, vec_len, ap, sym, subst, arith}
 use Rattle.std.specs.List.{list_all}
 use Rattle.std.proofs.lemmas.List.{length-map}
+use Rattle.memory_objects.specs.Backed.{AccountsMove, HoldsMove}
+use Rattle.memory_objects.specs.Objects.{rows_of}
+use Rattle.memory_objects.specs.Runs.{CanPinRun, RunIsPinned}
 use Rattle.memory_objects.specs.Objects.{ObjectTable, access_pins_on, is_freed, object_at}
 use Rattle.memory_objects.specs.Objects.{pinned_frame, standing}
 use Rattle.memory_objects.specs.Runs.{covers, frame_after, lies_within}
@@ -20,6 +23,36 @@ invariant_of-self g c =
       freed = ap (list_all is_freed) c.pin_run.ensures.gone ∙ c.self.invariant.freed;
       kept = c.pin_run.ensures.kept c.self.invariant.kept;
     }
+
+pub pin_run-requires-clause-rising : goal.pin_run-requires-clause-rising
+pin_run-requires-clause-rising g c = c.self.invariant.rising
+
+pub pin_run-requires-clause-can : goal.pin_run-requires-clause-can
+pin_run-requires-clause-can g c =
+    let V : ObjectTable → Type 0 = λ v. CanPinRun v.objects c.args.run c.args.users.now.pages c.args.pool.now.holds
+    c.args.accounts.now in
+    subst V (sym c.self.view_is) c.requires
+
+pub returns-clause-objects : goal.returns-clause-objects
+returns-clause-objects g c =
+    let V : ObjectTable → Type 0 = λ v. RunIsPinned c.args.run c.args.users.now.pages v.objects
+    (standing c.pin_run.new.entries.items) in
+    subst V c.self.view_is c.pin_run.ensures.objects
+
+pub returns-clause-rows : goal.returns-clause-rows
+returns-clause-rows g c = c.pin_run.ensures.rows ∙ ap (λ (v : ObjectTable). rows_of v.objects) c.self.view_is
+
+pub returns-clause-pool : goal.returns-clause-pool
+returns-clause-pool g c =
+    let V : ObjectTable → Type 0 = λ v. HoldsMove v.objects (standing c.pin_run.new.entries.items) c.args.pool.now
+    c.pin_run.new.pool in
+    subst V c.self.view_is c.pin_run.ensures.pool
+
+pub returns-clause-accounts : goal.returns-clause-accounts
+returns-clause-accounts g c =
+    let V : ObjectTable → Type 0 = λ v. AccountsMove v.objects (standing c.pin_run.new.entries.items)
+    c.args.accounts.now c.pin_run.new.accounts in
+    subst V c.self.view_is c.pin_run.ensures.accounts
 
 pub returns-clause-gone : goal.returns-clause-gone
 returns-clause-gone g c = gone_are_few c.pin_run.new.entries.items (vec_len c.pin_run.new.entries)
