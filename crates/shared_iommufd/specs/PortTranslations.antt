@@ -42,7 +42,7 @@ module _ {A : Type 0} {g : CoreGhosts A} where
     pub turns : q.turns ≡ finds.turns
     pub leaves : Leaves most (page_of address) finds.translation (compared p.turns finds.turns p.kept) q.kept
 
-  -- it is, at the first try: no lane was met held; or its lane couldn't be had, and nothing was seen
+  -- it is, and no lane was met held; or its lane couldn't be had, and nothing was seen
   abbrev pub Translates : Settings → DeviceNo → ℕ → ℕ → AccessKind → Standing A g → Result (Option Translation) NotNow
       → Standing A g → Type 0
   Translates settings device most address kind p (Ok told) q =
