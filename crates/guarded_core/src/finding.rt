@@ -15,10 +15,10 @@ use iofd_words::{
     AccessKind, Act, Answer, Burst, DeviceNo, Event, FrameNo, Iova, Query, Translation,
 };
 use port_cache::{Found, PortCache, with_right};
-use std::alloc::Allocator;
+use std::alloc::{AllocError, Allocator};
 
 /// A device's read of so many bytes, by what its port keeps.
-#[derive(Clone, Copy)]
+#[derive(Copy)]
 pub struct PortRead<'a, A: Allocator + Copy> {
     pub cache: &'a PortCache<A>,
     pub device: DeviceNo,
@@ -27,12 +27,25 @@ pub struct PortRead<'a, A: Allocator + Copy> {
 }
 
 /// What a device's page at an address is translated to, with a right, by what its port keeps.
-#[derive(Clone, Copy)]
+#[derive(Copy)]
 pub struct PortWalk<'a, A: Allocator + Copy> {
     pub cache: &'a PortCache<A>,
     pub device: DeviceNo,
     pub iova: Iova,
     pub kind: AccessKind,
+}
+
+// Written out, as what derives it copies field by field, which takes twenty times as long to prove.
+impl<'a, A: Allocator + Copy> Clone for PortRead<'a, A> {
+    fn clone(&self) -> Result<PortRead<'a, A>, AllocError> {
+        Ok(*self)
+    }
+}
+
+impl<'a, A: Allocator + Copy> Clone for PortWalk<'a, A> {
+    fn clone(&self) -> Result<PortWalk<'a, A>, AllocError> {
+        Ok(*self)
+    }
 }
 
 // The frame of a translation.
