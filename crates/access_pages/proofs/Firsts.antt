@@ -1,5 +1,5 @@
 -- The first so many of a list.
-use Rattle.std.proofs.Common.{◌≡◌, ℕ, zero, suc, ◌-◌, ◌<◌, Bool, true, List, [], ◌∷◌, take, refl, arith}
+use Rattle.std.proofs.Common.{◌≡◌, ℕ, zero, suc, ◌-◌, ◌<◌, Bool, true, List, [], ◌∷◌, length, take, refl, ap, arith}
 use Rattle.std.specs.List.{list_all}
 use Rattle.iofd_rows.proofs.Bools.{and_true, both_true}
 
@@ -17,3 +17,10 @@ all_first p (suc n) [] all = refl
 all_first p (suc n) (x ∷ xs) all =
     let parts = and_true (p x) (list_all p xs) all in
     both_true _ _ parts.0 (all_first p n xs parts.1)
+
+-- without its first element a list is shorter
+pub shorter : {X : Type 0} (all rest : List X) (x : X) → all ≡ x ∷ rest → length rest < length all
+shorter all rest x is =
+    let longer : length (x ∷ rest) ≡ suc (length rest) = refl in
+    let same = ap (λ l. length l) is in
+    omega (arith, longer, same)

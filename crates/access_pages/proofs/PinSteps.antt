@@ -1,6 +1,7 @@
 -- Pins by accesses are put on one run after another.
 use Rattle.std.proofs.Common.{◌≡◌, ℕ, ◌+◌, ◌<◌, ◌≤◌, ◌^◌, Bool, true, false, cond, ◌&&◌, ◌||◌, not, eqb, IfSome}
-use Rattle.std.proofs.Common.{Option, Some, None, List, [], ◌∷◌, ◌++◌, length, refl, ap, subst, sym, ◌∙◌, arith}
+use Rattle.std.proofs.Common.{Option, Some, None, Fits, w64, List, [], ◌∷◌, ◌++◌, length, length-append, suc}
+use Rattle.std.proofs.Common.{refl, ap, subst, sym, ◌∙◌, arith}
 use Rattle.std.specs.Prelude.{is_none}
 use Rattle.std.specs.List.{filter, find, flat_map, list_all, list_any}
 use Rattle.std.proofs.lemmas.Bool.{eqb-true, eq-eqb}
@@ -242,14 +243,25 @@ pinning_further span all rest area count first now next before between after p m
           after p.pinned p.may more settles;
     }
 
-pub pinning_last : (span : Bounds) (all : List Area) (count : ℕ) (first now : Memory) (before between : FramePool)
-    → Pinning span all [] count first now before between → ArePinned (runs_in span all) first now before between
-pinning_last span all count first now before between p =
-    rw (sym (nothing_behind p.done) ∙ p.split) at p.pinned
+pub pinning_last : (span : Bounds) (all left : List Area) (count : ℕ) (first now : Memory) (before between : FramePool)
+    → Pinning span all left count first now before between → left ≡ []
+    → ArePinned (runs_in span all) first now before between
+pinning_last span all left count first now before between p none =
+    rw (sym (nothing_behind p.done) ∙ ap (λ (l : List Area). p.done ++ l) (sym none) ∙ p.split) at p.pinned
   where
     nothing_behind : (xs : List Area) → xs ++ [] ≡ xs
     nothing_behind [] = refl
     nothing_behind (x ∷ xs) = ap (λ (l : List Area). x ∷ l) (nothing_behind xs)
+
+-- so many areas, and one more, are no more than there are
+pub counts_one_more : (span : Bounds) (all left rest : List Area) (area : Area) (count : ℕ) (first now : Memory)
+    (before between : FramePool) → Pinning span all left count first now before between → left ≡ area ∷ rest
+    → length all < 2 ^ 64 → Fits w64 (count + 1)
+counts_one_more span all left rest area count first now before between p some few =
+    let counted = p.counted in
+    let whole = sym (length-append p.done left) ∙ ap (λ (l : List Area). length l) p.split in
+    let longer : length left ≡ suc (length rest) = ap (λ (l : List Area). length l) some in
+    omega (arith, counted, whole, longer, few)
 
 -- what the calls for the first of the areas that are left ask
 module _ (span : Bounds) (all rest : List Area) (area : Area) (count : ℕ) (first now : Memory)

@@ -148,10 +148,11 @@ releasing_further span all rest area first now next before between after r less 
           after r.released r.may less settles;
     }
 
-pub releasing_last : (span : Bounds) (all : List Area) (first now : Memory) (before between : FramePool)
-    → Releasing span all [] first now before between → AreReleased (runs_in span all) first now before between
-releasing_last span all first now before between r =
-    rw (sym (nothing_behind r.done) ∙ r.split) at r.released
+pub releasing_last : (span : Bounds) (all left : List Area) (first now : Memory) (before between : FramePool)
+    → Releasing span all left first now before between → left ≡ []
+    → AreReleased (runs_in span all) first now before between
+releasing_last span all left first now before between r none =
+    rw (sym (nothing_behind r.done) ∙ ap (λ (l : List Area). r.done ++ l) (sym none) ∙ r.split) at r.released
   where
     nothing_behind : (xs : List Area) → xs ++ [] ≡ xs
     nothing_behind [] = refl

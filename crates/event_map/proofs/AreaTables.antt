@@ -4,7 +4,7 @@ use Rattle.std.proofs.Common.{◌≡◌, ℕ, zero, suc, ◌<◌, ◌≤◌, Boo
 use Rattle.std.proofs.Common.{List, [], ◌∷◌, ◌++◌, length, refl, sym, ◌∙◌, ap, subst, arith}
 use Rattle.std.specs.Prelude.{slice_index}
 use Rattle.std.specs.List.{count_by, list_all}
-use Rattle.std.proofs.lemmas.Bool.Decides.{nat_tests}
+use Rattle.std.proofs.lemmas.Bool.{eq-eqb, eqb-true, ltb-true}
 use Rattle.frame_memory.specs.Pool.{FramePool, free_count}
 use Rattle.page_table_set.proofs.Missing.{least_are_free, missing_counted}
 use Rattle.page_table_set.specs.OverSpans.{tables_needed, with_missing}
@@ -67,6 +67,15 @@ and_none : (a b : Bool) → ((a && false) && b) ≡ false
 and_none true b = refl
 and_none false b = refl
 
+-- ---- numbers of frames
+
+none_left : (n m : ℕ) → (0 < n → 0 < m) → m ≡ 0 → n ≡ 0
+none_left zero m more gone = refl
+none_left (suc n) m more gone = absurd (let some = more (omega arith) in omega (arith, some, gone))
+
+in_pool : (one x pool size : ℕ) → one < pool → one ≡ x → size ≡ pool → x < size
+in_pool one x pool size below same long = omega arith
+
 -- how many tables it takes is told alike by the world and by what is kept
 pub needed_told : {A : Type 0} (at : ℕ) (w : World) (s : State A) (a : Area) → IsTidy at w → Shows w s
     → tables_needed w.table_frames a.file a.ioas a.span s.page_tables.tables ≡ tables_to_map
@@ -99,18 +108,19 @@ module _ {A : Type 0} (at : ℕ) (w : World) (s : State A) (tidy : IsTidy at w) 
       missing_counted w.table_frames file request.ioas new_area.span tables ∙ needed_told at w s new_area tidy shows
 
   missing_few : length missing ≤ free_count s.pool.holds
-  missing_few = omega (arith, missing_many, enough)
+  missing_few = subst (λ (n : ℕ). n ≤ free_count s.pool.holds) (sym missing_many) enough
 
   few_free : length missing ≤ free_count pool.holds
   few_free =
       let same = count_alike pool.holds s.pool.holds
       (free_mapped at w s tidy shows number file request iova objects after pool comes) in
-      omega (arith, missing_few, same)
+      subst (λ (n : ℕ). length missing ≤ n) (sym same) missing_few
 
   -- there are frames for them
   pub frames_there : tables_needed w.table_frames file request.ioas new_area.span tables ≤ free_count pool.holds
   frames_there =
-      let many = missing_counted w.table_frames file request.ioas new_area.span tables in omega (arith, many, few_free)
+      let many = missing_counted w.table_frames file request.ioas new_area.span tables in
+      subst (λ (n : ℕ). n ≤ free_count pool.holds) many few_free
 
   missing_is : missing_tables w.objects (world.with_area new_area w.areas) w.table_frames ≡ missing
   missing_is = missing_mapped w.areas w.table_frames new_area refl w.objects tables shows.tables.tables
@@ -151,13 +161,9 @@ module _ {A : Type 0} (at : ℕ) (w : World) (s : State A) (tidy : IsTidy at w) 
     rows_now = ap (λ (fs : List FrameNo). w.table_frames ++ in_frames missing fs) (sym taken_is)
 
     none_reached : (f : ℕ) → 0 < tables_in w.table_frames f → reached after f ≡ 0
-    none_reached f some = none (reached after f)
+    none_reached f some = none_left (reached after f) (reached s.memory f)
         (settles_named s.memory after s.pool pool shows.pins.invariant.rising comes.settles f)
         (unreached w s shows tidy.tabled.owned f some)
-      where
-        none : (n : ℕ) → (0 < n → 0 < reached s.memory f) → reached s.memory f ≡ 0 → n ≡ 0
-        none zero more gone = refl
-        none (suc n) more gone = absurd (let named = more (omega arith) in omega (arith, named, gone))
 
     was_free : (x : ℕ) → 0 < times_in taken x → (x < length pool.holds) × (slice_index pool.holds x ≡ 0)
     was_free x some =
@@ -169,13 +175,13 @@ module _ {A : Type 0} (at : ℕ) (w : World) (s : State A) (tidy : IsTidy at w) 
         let free = and_true (ltb there.one.0 w.settings.pool) _
         (of_each (λ (frame : FrameNo). is_free w.settings.pool w.user_pages w.pins w.table_frames frame.0) taken
         there.one all there.within) in
-        let below : there.one.0 < w.settings.pool = let low = free.0 in search (low, arith, nat_tests) in
-        let same : there.one.0 ≡ x = let it = there.passes in search (it, arith, nat_tests) in
+        let below = ltb-true there.one.0 w.settings.pool free.0 in
+        let same = eqb-true there.one.0 x there.passes in
         let size = (frames_mapped at w s tidy shows number file request iova objects after pool comes).size in
         let among : are_frames (least_frames pool.holds (length missing)) x ≡ true =
         ap (λ (fs : List FrameNo). are_frames fs x) (sym taken_is)
         ∙ of_any (λ (y : FrameNo). eqb y.0 x) taken there.one there.within there.passes in
-        (omega (arith, below, same, size), least_are_free pool.holds (length missing) x among)
+        (in_pool _ _ _ _ below same size, least_are_free pool.holds (length missing) x among)
 
     frames_taken : FramesShown w.settings.pool w.writes (w.table_frames ++ in_frames missing taken) after made
     frames_taken =
@@ -200,7 +206,7 @@ module _ {A : Type 0} (at : ℕ) (w : World) (s : State A) (tidy : IsTidy at w) 
         page_leads at w s tidy shows number file request iova objects after pool comes apart f i page (over i same)
       where
         same : eqb i.0 i.0 ≡ true
-        same = grind (arith, nat_tests)
+        same = eq-eqb i.0 i.0 refl
     by_kind f page (kind.Device device) over =
         rw (and_none (eqb f.0 file.0) (is_some (live_area_at page (new_area ∷ [])))) refl
     by_kind f page (kind.Access attached) over =
@@ -214,7 +220,7 @@ module _ {A : Type 0} (at : ℕ) (w : World) (s : State A) (tidy : IsTidy at w) 
         subst (λ (os : List Object). IsIn os h.object) shows.tables.tables
         (in_list (λ (h : Hwpt). h.object) tables h within) in
         let among = (in_filter (λ (o : Object). is_hwpt o.kind) w.objects h.object there).0 in
-        let here : eqb h.object.file.0 h.object.file.0 ≡ true = grind (arith, nat_tests) in
+        let here = eq-eqb h.object.file.0 h.object.file.0 refl in
         by_kind h.object.file page h.object.kind
         (λ i over. of_any (λ (o : Object). eqb o.file.0 h.object.file.0 && is_hwpt_over i o.kind) w.objects h.object
         among (both_true _ _ here over))

@@ -1,5 +1,5 @@
 -- A MAP's area comes over a new memory object: what it makes of the users' memory.
-use Rattle.std.proofs.Common.{◌≡◌, ℕ, ◌+◌, ◌*◌, ◌<◌, Bool, true, false, cond, ◌&&◌, ◌||◌, eqb, ltb, Some, List, []}
+use Rattle.std.proofs.Common.{◌≡◌, ℕ, ◌+◌, ◌*◌, ◌<◌, ◌≤◌, Bool, true, false, cond, ◌&&◌, ◌||◌, eqb, ltb, Some, List, []}
 use Rattle.std.proofs.Common.{◌∷◌, ◌++◌, refl, sym, ◌∙◌, ap, arith}
 use Rattle.std.specs.Prelude.{if◌then◌else◌}
 use Rattle.std.specs.List.{find, list_all, list_any, count_by}
@@ -39,7 +39,21 @@ use Rattle.server_state.specs.declared.state.State.{State}
 use Rattle.user_memory_rows.proofs.AccessCounts.{none_counted, unlisted_unpinned}
 use Rattle.user_memory_rows.proofs.CountBy.{any_count}
 use Rattle.iofd_runs.proofs.PagesToPin.{none_over}
-use Rattle.std.proofs.lemmas.Bool.{eqb-true}
+use Rattle.std.proofs.lemmas.Bool.{eq-eqb, eqb-true}
+
+-- ---- numbers
+
+below_other : (n m : ℕ) → ltb n m ≡ true → eqb n m ≡ false
+below_other n m low = grind (arith, nat_tests)
+
+no_count : (n : ℕ) → ltb 0 n ≡ false → n ≡ 0
+no_count n none = grind (arith, nat_tests)
+
+grown : (n m k : ℕ) → m ≡ n + k → n ≤ m
+grown n m k is = omega arith
+
+one_more : (n m : ℕ) → m ≡ n + 1 → 0 < m
+one_more n m is = omega arith
 
 -- ---- numbers of memory objects
 
@@ -48,14 +62,14 @@ old_number : (at : ℕ) (objects : List MemoryObject) (a : Area)
     → list_all (λ (m : MemoryObject). ltb m.number at) objects ≡ true → has_object objects a ≡ true
     → eqb a.memory at ≡ false
 old_number at objects a made has =
-    below (said objects (any_of_all (λ (m : MemoryObject). ltb m.number at) (λ (m : MemoryObject). eqb m.number a.memory
+    below_other a.memory at (said objects (any_of_all (λ (m : MemoryObject). ltb m.number at) (λ (m : MemoryObject). eqb m.number a.memory
     && eqb (m.count * 4096) (size_of a.span)) (λ m. ltb a.memory at) objects lower made has))
   where
     lower : (m : MemoryObject) → ltb m.number at ≡ true
         → (eqb m.number a.memory && eqb (m.count * 4096) (size_of a.span)) ≡ true → ltb a.memory at ≡ true
     lower m low is =
         let named = (and_true (eqb m.number a.memory) _ is).0 in
-        let same : m.number ≡ a.memory = search (named, arith, nat_tests) in
+        let same = eqb-true m.number a.memory named in
         rw (← same) low
 
     said : (rows : List MemoryObject) → list_any (λ (m : MemoryObject). ltb a.memory at) rows ≡ true
@@ -68,9 +82,6 @@ old_number at objects a made has =
         by_test true some later = refl
         by_test false some later = later some
 
-    below : ltb a.memory at ≡ true → eqb a.memory at ≡ false
-    below low = grind (arith, nat_tests)
-
 -- the new row is the only one of its number
 pub find_new : (at : ℕ) (rows : List MemoryObject) (row : MemoryObject)
     → list_all (λ (m : MemoryObject). ltb m.number at) rows ≡ true → eqb row.number at ≡ true
@@ -78,7 +89,7 @@ pub find_new : (at : ℕ) (rows : List MemoryObject) (row : MemoryObject)
 find_new at [] row lower is = rw is refl
 find_new at (m ∷ rows) row lower is =
     let parts = and_true (ltb m.number at) (list_all (λ (x : MemoryObject). ltb x.number at) rows) lower in
-    let other : eqb m.number at ≡ false = let low = parts.0 in grind (arith, nat_tests) in
+    let other = below_other m.number at parts.0 in
     rw other (find_new at rows row parts.1 is)
 
 -- ---- the new object
@@ -134,7 +145,7 @@ module _ (at : ℕ) (w : World) (file : FileNo) (request : MapRequest) (iova : I
           uncounted n is =
               let free = sym (any_count (λ (a : Area). eqb a.memory at) w.areas)
               ∙ none_over at w.areas w.memory tidy.pins.made tidy.pins.sizes in
-              let zero : count_by (λ (a : Area). eqb a.memory at) w.areas ≡ 0 = search (free, arith, nat_tests) in
+              let zero = no_count (count_by (λ (a : Area). eqb a.memory at) w.areas) free in
               ap (λ (m : ℕ). count_by (λ (a : Area). eqb a.memory m) w.areas) (eqb-true n at is) ∙ zero
 
       by_page : (page : ObjectPage) → has_page mapped_world.memory page ≡ true → (b : Bool)
@@ -174,7 +185,7 @@ module _ {A : Type 0} (at : ℕ) (w : World) (s : State A) (tidy : IsTidy at w) 
       ∙ list_any-append (λ (row : MemoryObject). eqb page.memory row.number && ltb page.index row.count)
       (rows_of s.memory) (new_object ∷ []) ∙ or_left _ _ parts.0)
       (still_some (table_pins s.memory page.memory) (table_pins after page.memory) (access_pins s.memory page)
-      (access_pins after page) (omega (arith, pins)) (has.access page) parts.1)
+      (access_pins after page) (grown _ _ _ pins) (has.access page) parts.1)
 
   same_pages : (a : Area) → IsIn w.areas a → (page : ℕ)
       → has_page (rows_of after) (object_page page a) ≡ has_page (rows_of s.memory) (object_page page a)
@@ -196,20 +207,20 @@ module _ {A : Type 0} (at : ℕ) (w : World) (s : State A) (tidy : IsTidy at w) 
             has settles;
         settles = settles;
         stays = stays_pinned;
-        grows = λ number. let pins = has.pins number in omega (arith, pins);
+        grows = λ number. grown _ _ _ (has.pins number);
         same = same_pages;
       }
 
   -- it is found by its number, and pinned where a page table translates it
   pub new_found : find (λ (row : MemoryObject). eqb row.number at) (rows_of after) ≡ Some new_object
   new_found =
-      let same : eqb at at ≡ true = grind (arith, nat_tests) in
+      let same = eq-eqb at at refl in
       ap (find (λ (row : MemoryObject). eqb row.number at)) has.rows
       ∙ find_new at (rows_of s.memory) new_object
       (ap (list_all (λ (m : MemoryObject). ltb m.number at)) (sym shows.pins.rows) ∙ tidy.pins.made) same
 
   pub new_pinned : pinned ≡ true → 0 < table_pins after at
   new_pinned translated =
-      let same : eqb at at ≡ true = grind (arith, nat_tests) in
+      let same = eq-eqb at at refl in
       let pins : table_pins after at ≡ table_pins s.memory at + 1 = has.pins at ∙ rw (same, translated) refl in
-      omega (arith, pins)
+      one_more _ _ pins

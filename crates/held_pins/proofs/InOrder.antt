@@ -3,7 +3,7 @@ use Rattle.std.proofs.Common.{◌≡◌, ℕ, ◌+◌, ◌<◌, Bool, true, fals
 use Rattle.std.specs.BTreeMap.{is_at}
 use Rattle.std.specs.BTreeMap.Range.{IsLeBy}
 use Rattle.std.specs.BTreeSet.{BTreeSet, contains}
-use Rattle.std.specs.Prelude.{nat_lt}
+use Rattle.std.specs.Prelude.{IfNone, IfSome, None, Option, Some, nat_lt}
 use Rattle.std.proofs.lemmas.Bool.Decides.{nat_tests}
 use Rattle.held_pins.specs.Counts.{IsFirstFrom, count_in}
 use Rattle.held_pins.specs.PageOrder.{AreInOrder, page_cmp}
@@ -163,3 +163,24 @@ pub none_counted : (rows : Pages) (order : BTreeSet PageKey) (other : PageKey) �
     → contains page_cmp order other ≡ false → count_in page_cmp rows other ≡ 0
 none_counted rows order other ordered absent =
     is_none (count_in page_cmp rows other) (sym (ordered other) ∙ absent)
+
+-- so of the first of the set's pages from one on, where there is one
+pub first_answer : (rows now : Pages) (order : BTreeSet PageKey) (from : PageKey) (answer : Option PageKey)
+    → AreInOrder rows order → rows ≡ now → IfSome answer (λ key. contains page_cmp order key ≡ true)
+    → IfSome answer (λ key. IsLeBy page_cmp from key)
+    → IfSome answer (λ key. (other : PageKey) → IsLeBy page_cmp from other → contains page_cmp order other ≡ true
+    → IsLeBy page_cmp key other)
+    → IfSome answer (λ key. IsFirstFrom page_cmp now from key)
+first_answer rows now order from None ordered same there reached least = tt
+first_answer rows now order from (Some key) ordered same there reached least =
+    subst (λ (all : Pages). IsFirstFrom page_cmp all from key) same
+    (first_counted rows order from key ordered there reached least)
+
+pub none_answer : (rows now : Pages) (order : BTreeSet PageKey) (from : PageKey) (answer : Option PageKey)
+    → AreInOrder rows order → rows ≡ now
+    → IfNone answer ((other : PageKey) → IsLeBy page_cmp from other → contains page_cmp order other ≡ false)
+    → IfNone answer ((other : PageKey) → IsLeBy page_cmp from other → count_in page_cmp now other ≡ 0)
+none_answer rows now order from (Some key) ordered same absent = tt
+none_answer rows now order from None ordered same absent =
+    subst (λ (all : Pages). (other : PageKey) → IsLeBy page_cmp from other → count_in page_cmp all other ≡ 0) same
+    (λ other behind. none_counted rows order other ordered (absent other behind))

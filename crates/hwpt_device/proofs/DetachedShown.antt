@@ -141,14 +141,33 @@ paid_uncovered : (w : World) (device : DeviceNo) (page : ObjectPage) → has_pag
 paid_uncovered w device page there none =
     none_counted w.objects w.areas w.access_pins page (sym (over_paid device w.areas page.memory) ∙ none)
 
+-- ---- users that are counted
+
+none_more : (n m : ℕ) → n ≡ m → n + 0 ≡ m
+none_more n m same = omega arith
+
+devices_alone : (n tables accesses devices : ℕ) → n ≡ tables + accesses + devices → tables ≡ 0 → accesses ≡ 0
+    → n ≡ devices
+devices_alone n tables accesses devices many none none_to = omega arith
+
+one_more : (n tables accesses devices left own : ℕ) → n ≡ tables + accesses + devices → tables ≡ 0 → accesses ≡ 0
+    → left + own ≡ devices → own ≡ 1 → n ≡ left + 1
+one_more n tables accesses devices left own many none none_to all one = omega arith
+
+one_or_more : (n : ℕ) → eqb (n + 1) 1 ≡ not (ltb 0 n)
+one_or_more n = grind (arith, nat_tests)
+
+none_or_some : (n : ℕ) → eqb n 0 ≡ not (ltb 0 n)
+none_or_some n = grind (arith, nat_tests)
+
 -- the same page tables translate as before
 fewer_none : (w : World) (device : DeviceNo) (left : List Object)
     → ((f : FileNo) (i : ObjId) → has_hwpt left f i ≡ has_hwpt w.objects f i)
     → AreFewer never never w left (all_paid device w.areas)
 fewer_none w device left same = record {
-  over_left = λ n. let is = over_paid device w.areas n in omega (arith, is);
-  translated_left = λ n. let is =
-      translated_paid left device w.areas n ∙ translated_same w.objects left w.areas same n in omega (arith, is);
+  over_left = λ n. none_more _ _ (over_paid device w.areas n);
+  translated_left =
+      λ n. none_more _ _ (translated_paid left device w.areas n ∙ translated_same w.objects left w.areas same n);
   uncovered = paid_uncovered w device;
 }
 
@@ -207,9 +226,6 @@ module _ {A : Type 0} where
       end : Ending w device a ioas
       end = ending w s device a file ioas shows found space
 
-      one_or_more : (n : ℕ) → eqb (n + 1) 1 ≡ not (ltb 0 n)
-      one_or_more n = grind (arith, nat_tests)
-
       one_tells : has_one_user s.objects a.file a.hwpt
           ≡ not (has_device_on (without_attachment device w.attachments) a.file a.hwpt)
       one_tells =
@@ -226,8 +242,7 @@ module _ {A : Type 0} where
           let none_to = shows.objects.accesses a.file a.hwpt no_space in
           let all = devices-without w.attachments device a a.file a.hwpt tidy.debts.once end.found in
           let one = on_own a in
-          let on : row.users ≡ devices_on (without_attachment device w.attachments) a.file a.hwpt + 1 =
-          omega (arith, many, none, none_to, all, one) in
+          let on = one_more _ _ _ _ _ _ many none none_to all one in
           ap (λ (o : Option (Row (Held A))). elim o as (λ _. Bool) [ Some r ↦ eqb r.users 1 | None ↦ false ]) found
           ∙ ap (λ (n : ℕ). eqb n 1) on
           ∙ one_or_more (devices_on (without_attachment device w.attachments) a.file a.hwpt)
@@ -310,15 +325,11 @@ module _ {A : Type 0} where
         a.file a.hwpt row there in
         let none = none_over_it in
         let none_to = none_to_it in
-        let on : row.users ≡ devices_on (without_attachment device w.attachments) a.file a.hwpt =
-        omega (arith, many, none, none_to) in
+        let on = devices_alone _ _ _ _ many none none_to in
         ap (λ (o : Option (Row (Held A))). elim o as (λ _. Bool) [ Some r ↦ eqb r.users 0 | None ↦ true ]) found
         ∙ none_or_some row.users
         ∙ ap (λ (n : ℕ). not (ltb 0 n)) on
         ∙ ap not (sym (has_devices (without_attachment device w.attachments) a.file a.hwpt))
-      where
-        none_or_some : (n : ℕ) → eqb n 0 ≡ not (ltb 0 n)
-        none_or_some n = grind (arith, nat_tests)
 
     -- so whether the page table goes is told by the table
     table_tells : (is_automatic_at (objects_in less) a.file a.hwpt && has_no_user less a.file a.hwpt)
@@ -639,7 +650,7 @@ module _ {A : Type 0} where
               end.over had (same_left ∙ more))
           -- it was the last one
           by_table false last = record {
-            over_left = λ n. let is = over_paid device w.areas n in omega (arith, is);
+            over_left = λ n. none_more _ _ (over_paid device w.areas n);
             translated_left =
                 λ n. ap (λ k. translated left (all_paid device w.areas) n + k) (ap (λ l. over l n) own_left
                 ∙ over_paid device (areas_of w.areas a.file ioas) n)

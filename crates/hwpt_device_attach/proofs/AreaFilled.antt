@@ -1,10 +1,10 @@
 -- One area is mapped in a page table: its pages lead to the frames at which they are pinned.
-use Rattle.std.proofs.Common.{◌≡◌, ◌⊎◌, inl, inr, ℕ, ◌+◌, ◌-◌, ◌*◌, ◌/◌, ◌%◌, ◌^◌, ◌<◌, ◌≤◌, Bool, true, false, eqb}
-use Rattle.std.proofs.Common.{leb, Option, Some, None, List, [], ◌∷◌, ◌++◌, append-nil, length, refl, ap, subst, sym}
-use Rattle.std.proofs.Common.{◌∙◌, arith}
+use Rattle.std.proofs.Common.{◌≡◌, ◌⊎◌, inl, inr, ℕ, ◌+◌, ◌-◌, ◌*◌, ◌/◌, ◌%◌, ◌^◌, ◌<◌, ◌≤◌, Bool, true, false, ◌&&◌}
+use Rattle.std.proofs.Common.{eqb, leb, Option, Some, None, List, [], ◌∷◌, ◌++◌, append-nil, length, refl, ap, subst}
+use Rattle.std.proofs.Common.{sym, ◌∙◌, arith}
 use Rattle.std.specs.Prelude.{IfSome, slice_get, slice_index_or}
 use Rattle.std.specs.List.{find}
-use Rattle.std.proofs.lemmas.Bool.Decides.{nat_tests}
+use Rattle.std.proofs.lemmas.Bool.{eq-eqb, eqb-true, le-leb, leb-false, lt-leb}
 use Rattle.std.proofs.lemmas.Option.{slice_get-get_or}
 use Rattle.frame_memory.specs.Pool.{FramePool, free_count}
 use Rattle.page_table_set.specs.OverSpans.{LeadsMapped, frames_for, missing_found, with_missing}
@@ -43,10 +43,10 @@ pub whole_pages : (a : Area) → a.span.first ≤ a.span.last → is_of_pages a 
     → is_whole_pages a.span ≡ true
 whole_pages a ordered pages starts =
     let sizes = and_true (is_whole (size_of a.span)) (leb (size_of a.span) (2 ^ 48)) pages in
-    let first : a.span.first % 4096 ≡ 0 = search (starts, arith, nat_tests) in
-    let size : (a.span.last + 1 - a.span.first) % 4096 ≡ 0 = let all = sizes.0 in search (all, arith, nat_tests) in
+    let first = eqb-true (a.span.first % 4096) 0 starts in
+    let size = eqb-true ((a.span.last + 1 - a.span.first) % 4096) 0 sizes.0 in
     let last : a.span.last % 4096 ≡ 4095 = omega (arith, first, size, ordered) in
-    both_true _ _ starts (search (last, arith, nat_tests))
+    both_true _ _ starts (eq-eqb _ _ last)
 
 -- and lies below the end of a width beyond which it doesn't reach
 pub of_pages : (width : Width) (a : Area) → a.span.first ≤ a.span.last → a.span.last < 2 ^ 64 → is_of_pages a ≡ true
@@ -56,11 +56,11 @@ of_pages width a ordered few pages starts wide =
   where
     begins : leb a.span.first 0xffff_ffff_ffff_ffff ≡ true
     begins =
-        let low : a.span.first ≤ 0xffff_ffff_ffff_ffff = omega (arith, ordered, few) in search (low, arith, nat_tests)
+        let low : a.span.first ≤ 0xffff_ffff_ffff_ffff = omega (arith, ordered, few) in le-leb _ _ low
 
     by_test : (b : Bool) → leb (2 ^ bits_of width) a.span.last ≡ b → a.span.last < 2 ^ bits_of width
     by_test true is = absurd (clash _ wide (both_true _ _ is begins))
-    by_test false is = search (is, arith, nat_tests)
+    by_test false is = leb-false _ _ is
 
 -- ---- a leaving area
 
@@ -84,8 +84,8 @@ as_long m a to whole object found size long =
 pub whole_size : (a : Area) → a.span.first ≤ a.span.last → is_whole_pages a.span ≡ true → size_of a.span % 4096 ≡ 0
 whole_size a ordered whole =
     let parts = and_true (eqb (a.span.first % 4096) 0) (eqb (a.span.last % 4096) 4095) whole in
-    let first : a.span.first % 4096 ≡ 0 = let is = parts.0 in search (is, arith, nat_tests) in
-    let last : a.span.last % 4096 ≡ 4095 = let is = parts.1 in search (is, arith, nat_tests) in
+    let first = eqb-true (a.span.first % 4096) 0 parts.0 in
+    let last = eqb-true (a.span.last % 4096) 4095 parts.1 in
     omega (arith, first, last, ordered)
 
 -- its pages alone are live
@@ -99,32 +99,35 @@ pub missing_is : (a : Area) → is_live a.phase ≡ true → (file : FileNo) (id
 missing_is a live file id tables h frames found =
     ap (missing_found frames a.span) found ∙ ap (tables_for frames h.object h.table.width) (sym (live_only a live))
 
+and_none : (b : Bool) → (b && false) ≡ false
+and_none true = refl
+and_none false = refl
+
 module _ (m : Memory) (a : Area) (to : List FrameNo) (live : is_live a.phase ≡ true)
     (ordered : a.span.first ≤ a.span.last) (whole : is_whole_pages a.span ≡ true)
     (each : (index : ℕ) → slice_get to index ≡ pinned_frame m (record { memory = a.memory; index = index }))
     (long : length to ≡ size_of a.span / 4096) where
   starts : a.span.first % 4096 ≡ 0
-  starts = let is =
-      (and_true (eqb (a.span.first % 4096) 0) (eqb (a.span.last % 4096) 4095) whole).0 in search (is, arith, nat_tests)
+  starts = eqb-true _ _ (and_true (eqb (a.span.first % 4096) 0) (eqb (a.span.last % 4096) 4095) whole).0
 
   ends : a.span.last % 4096 ≡ 4095
-  ends = let is =
-      (and_true (eqb (a.span.first % 4096) 0) (eqb (a.span.last % 4096) 4095) whole).1 in search (is, arith, nat_tests)
+  ends = eqb-true _ _ (and_true (eqb (a.span.first % 4096) 0) (eqb (a.span.last % 4096) 4095) whole).1
 
   within : (k : ℕ) → k < length to → holds a.span ((page_of a.span.first + k) * 4096) ≡ true
   within k below =
       let low : a.span.first ≤ (page_of a.span.first + k) * 4096 = omega (arith, starts) in
       let high : (page_of a.span.first + k) * 4096 ≤ a.span.last = omega (arith, starts, ends, below, long, ordered) in
-      grind (arith, nat_tests)
+      both_true _ _ (le-leb _ _ low) (le-leb _ _ high)
 
   without : (page : ℕ) → (page < page_of a.span.first) ⊎ (page_of a.span.first + length to ≤ page)
       → holds a.span (page * 4096) ≡ false
   without page (inl before) =
       let low : page * 4096 < a.span.first = omega (arith, starts, before) in
-      grind (arith, nat_tests)
+      ap (λ (b : Bool). b && leb (page * 4096) a.span.last) (lt-leb _ _ low)
   without page (inr after) =
       let high : a.span.last < page * 4096 = omega (arith, starts, ends, after, long, ordered) in
-      grind (arith, nat_tests)
+      ap (λ (b : Bool). leb a.span.first (page * 4096) && b) (lt-leb _ _ high)
+      ∙ and_none (leb a.span.first (page * 4096))
 
   -- the frame of a page
   lead_at : (k : ℕ) (d : FrameNo) → k < length to

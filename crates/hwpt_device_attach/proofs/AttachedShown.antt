@@ -234,6 +234,15 @@ there_is objects file pt_id id width (Some (kind.Access attached)) ids is found 
     automatic_is objects file pt_id id width ids found
 there_is objects file pt_id id width None ids is found = automatic_is objects file pt_id id width ids found
 
+-- a page table's tables, accesses and devices, counted: one that was there, and a new one
+few_joined : (tables accesses devices : ℕ) → tables ≡ 0 → accesses ≡ 0 → devices ≤ 256
+    → tables + accesses + devices < 4294967295
+few_joined tables accesses devices none_over none_attached few = omega arith
+
+few_counted : (new own tables was accesses devices : ℕ) → new ≡ own + tables → accesses ≡ 0 → tables + was < 65535
+    → own ≤ 1 → devices ≤ 256 → new + accesses + devices < 4294967295
+few_counted new own tables was accesses devices over none few one few_devices = omega arith
+
 at_most_one : (b : Bool) → cond b 1 0 ≤ 1
 at_most_one true = omega arith
 at_most_one false = omega arith
@@ -329,7 +338,7 @@ module _ {A : Type 0} where
       let few = devices_few at w s file id tidy shows inside in
       device_joins w.settings w.closed w.objects w.attachments w.areas s.objects table shows.objects
       (record { device = device; file = file; hwpt = id }) ioas of automatic is_kind others
-      (omega (arith, none_over, none_attached, few)) counts
+      (few_joined _ _ _ none_over none_attached few) counts
 
   -- ---- by a page table that is there
 
@@ -652,7 +661,7 @@ module _ {A : Type 0} where
       let objects =
       device_joins w.settings w.closed (with_object object w.objects) w.attachments w.areas made.objects new
       with.objects a pt_id width true is_new others
-      (omega (arith, over, none_attached, few_tables, one, few_devices)) counts in
+      (few_counted _ _ _ _ _ _ over none_attached few_tables one few_devices) counts in
       let left : World = device_attached w device pt_id (reply.Id id) in
       let left_is : left ≡ record table { attachments = with_attachment a w.attachments } = to ∙ is in
       let owned = owned_after {A = A} at w (event.Attach device pt_id) (reply.Id id) answers tt tidy.tabled.owned in

@@ -3,7 +3,7 @@
 use Rattle.std.proofs.Common.{◌≡◌, ℕ, ◌*◌, ◌<◌, ◌≤◌, Bool, true, false, cond, ◌&&◌, ◌||◌, not, eqb, ltb, Some, None}
 use Rattle.std.proofs.Common.{List, [], ◌∷◌, length, map, refl, sym, ◌∙◌, ap, subst, arith}
 use Rattle.std.specs.List.{filter, find, list_all, list_any}
-use Rattle.std.proofs.lemmas.Bool.Decides.{nat_tests}
+use Rattle.std.proofs.lemmas.Bool.{eq-eqb, eqb-true, ltb-false, ltb-true}
 use Rattle.std.proofs.lemmas.List.{length-map}
 use Rattle.frame_memory.specs.Pool.{FramePool, free_count}
 use Rattle.page_table_set.proofs.Missing.{missing_at}
@@ -116,7 +116,8 @@ object_sized (m ∷ memory) area own has =
                 → (not (list_any (λ (other : MemoryObject). eqb other.number m.number) rows) ≡ true
                 → has_object rows area ≡ true → ⊥) → ⊥
             by_row true is own some later =
-                let both : eqb r.number m.number ≡ true = grind (arith, nat_tests) in let gone = rw both at own in cc
+                let both = eq-eqb r.number m.number (eqb-true _ _ is ∙ sym (eqb-true _ _ same)) in
+                let gone = rw both at own in cc
             by_row false is own some later = later (apart (eqb r.number m.number)
                 (list_any (λ (other : MemoryObject). eqb other.number m.number) rows) own) some
               where
@@ -129,7 +130,7 @@ object_sized (m ∷ memory) area own has =
         → ((b && c) || has_object memory area) ≡ true → (has_object memory area ≡ true → IsSized memory area)
         → IsSized (m ∷ memory) area
     by_tests true true is sized own has later =
-        record { object = m; found = rw is refl; size = search (sized, arith, nat_tests) }
+        record { object = m; found = rw is refl; size = eqb-true _ _ sized }
     by_tests true false is other own has later = absurd (none_later is own has)
     by_tests false c is sized own has later =
         let rest = later has in record { object = rest.object; found = rw is rest.found; size = rest.size }
@@ -154,6 +155,10 @@ pinned_more at w s tidy shows file ioas after pool more =
 
 -- ---- it may come
 
+-- numbers that are told alike are in the same order
+in_order : (a b c d : ℕ) → a ≡ b → c ≡ d → b ≤ d → a ≤ c
+in_order a b c d same other le = omega arith
+
 module _ {A : Type 0} (at : ℕ) (w : World) (s : State A) (tidy : IsTidy at w) (shows : Shows w s) (file : FileNo)
     (ioas id : ObjId) (width : Width) (automatic : Bool) (roomy : IsRoomy (view w) file ioas width)
     (fresh : is_fresh w.objects file id ≡ true)
@@ -171,9 +176,9 @@ module _ {A : Type 0} (at : ℕ) (w : World) (s : State A) (tidy : IsTidy at w) 
   pins_there a within =
       let of = in_filter (is_of file ioas) w.areas a within in
       let names = and_true (eqb a.file.0 file.0) (eqb a.ioas.0 ioas.0) of.1 in
-      let own : eqb a.memory a.memory ≡ true = grind (arith, nat_tests) in
-      let itself_file : eqb file.0 file.0 ≡ true = grind (arith, nat_tests) in
-      let itself_ioas : eqb ioas.0 ioas.0 ≡ true = grind (arith, nat_tests) in
+      let own = eq-eqb a.memory a.memory refl in
+      let itself_file = eq-eqb file.0 file.0 refl in
+      let itself_ioas = eq-eqb ioas.0 ioas.0 refl in
       let here : has_hwpt (with_object object w.objects) file ioas ≡ true =
       hwpt-with_object object w.objects file ioas ∙ rw (itself_file, itself_ioas) refl in
       let has : has_hwpt (with_object object w.objects) a.file a.ioas ≡ true =
@@ -185,9 +190,7 @@ module _ {A : Type 0} (at : ℕ) (w : World) (s : State A) (tidy : IsTidy at w) 
       && has_hwpt (with_object object w.objects) x.file x.ioas) w.areas) ∙ some in
       let shown = pins_pinned at w s tidy shows file ioas id width automatic roomy after pool more fresh in
       let pins = shown.tables a.memory in
-      let positive : 0 < translated (with_object object w.objects) w.areas a.memory =
-      search (counted, arith, nat_tests) in
-      omega (arith, positive, pins)
+      subst (λ (n : ℕ). 0 < n) (sym pins) (ltb-true _ _ counted)
 
   pub all_mappable : AreMappable after width areas
   all_mappable a within live =
@@ -206,8 +209,8 @@ module _ {A : Type 0} (at : ℕ) (w : World) (s : State A) (tidy : IsTidy at w) 
           found = ap (find (λ (row : MemoryObject). eqb row.number a.memory)) (sym rows) ∙ sized.found;
           size = sized.size;
         };
-        some_right = let some = rights.0 in search (some, arith, nat_tests);
-        no_other = let few = rights.1 in search (few, arith, nat_tests);
+        some_right = ltb-true _ _ rights.0;
+        no_other = ltb-true _ _ rights.1;
       }
 
   pub free_there : length (tables_for w.table_frames object width (live_pages areas)) ≤ free_count pool.holds
@@ -218,8 +221,8 @@ module _ {A : Type 0} (at : ℕ) (w : World) (s : State A) (tidy : IsTidy at w) 
       (free_pinned at w s tidy shows file ioas id width automatic roomy after pool more) in
       let same = same_count w s shows in
       let few : length (lacking (λ place. false) (places_of width (live_pages areas))) ≤ free_count s.pool.holds =
-      rw same (let enough = roomy.frames in search (enough, arith, nat_tests)) in
-      omega (arith, all, free, few)
+      rw same (ltb-false _ _ roomy.frames) in
+      in_order _ _ _ _ all free few
 
   -- the new one leads nowhere yet
   pub leads_none : (page : ℕ) → leads_yet at w s tidy shows file ioas id width automatic roomy after
@@ -238,6 +241,6 @@ module _ {A : Type 0} (at : ℕ) (w : World) (s : State A) (tidy : IsTidy at w) 
     other = not_there at w s tidy shows file ioas id width automatic roomy fresh;
     free = free_there;
     enough = let all = lacks_all w.objects w.table_frames object width (live_pages areas) tidy.tabled.owned
-        (no_kind w.objects file id fresh) in omega (arith, all, enough);
+        (no_kind w.objects file id fresh) in in_order _ _ _ _ all refl enough;
     mappable = all_mappable;
   }

@@ -2,7 +2,7 @@
 use Rattle.std.proofs.Common.{◌≡◌, ℕ, ◌+◌, ◌≤◌, Bool, true, false, cond, eqb, set, Option, Some, None, List, [], ◌∷◌}
 use Rattle.std.proofs.Common.{◌++◌, length, length-append, refl, ap, subst, sym, ◌∙◌, arith}
 use Rattle.std.specs.Prelude.{IfSome}
-use Rattle.std.proofs.lemmas.Bool.Decides.{nat_tests}
+use Rattle.std.proofs.lemmas.Bool.{eq-eqb}
 use Rattle.std.proofs.lemmas.List.{get_or-set_other}
 use Rattle.area_map_rows.specs.Areas.{AreApart}
 use Rattle.frame_memory.specs.Pool.{FramePool, bytes_of, free_count, given, least_free, zeros}
@@ -27,6 +27,7 @@ use Rattle.page_table_spans.specs.Spans.{held_once}
 use Rattle.page_table_words.proofs.Frames.{free_taken, least_frames_more, no_frames, some_least}
 use Rattle.page_table_words.specs.Rows.{TableRow}
 use Rattle.user_memory.specs.Memory.{Memory}
+use Rattle.iofd_rows.proofs.Bools.{clash}
 use Rattle.hwpt_device_attach.proofs.Filled.{fails_both, tables_fewer}
 use Rattle.hwpt_device_attach.proofs.FilledInTurn.{Leads, as_many, more_filled}
 use Rattle.hwpt_device_attach.specs.Filling.{Adds, CanAdd, CanFill, Fills, IsFilled, filled, tables_for}
@@ -54,9 +55,7 @@ root_frames holds root f is =
 
 pub itself : (h : Hwpt) → is_object h.object.file h.object.id h.object ≡ true
 itself h =
-    let one : eqb h.object.file.0 h.object.file.0 ≡ true = grind (arith, nat_tests) in
-    let two : eqb h.object.id.0 h.object.id.0 ≡ true = grind (arith, nat_tests) in
-    rw (one, two) refl
+    rw (eq-eqb h.object.file.0 h.object.file.0 refl, eq-eqb h.object.id.0 h.object.id.0 refl) refl
 
 pub found_new : (h : Hwpt) (tables : List Hwpt) → hwpt_of tables h.object.file h.object.id ≡ None
     → hwpt_of (with_hwpt h tables) h.object.file h.object.id ≡ Some h
@@ -97,6 +96,12 @@ some_frame pool tables m object width areas room can =
 
 -- ---- it is added
 
+no_sum : (n : ℕ) → n + 1 ≡ 0 → ⊥
+no_sum n none = omega arith
+
+one_taken : (before given mid some : ℕ) → given + 1 ≡ before → mid ≡ given → some ≡ 1 → mid + some ≡ before
+one_taken before given mid some taken held one = omega arith
+
 module _ (object : Object) (width : Width) (m : Memory) (tables more : List Hwpt) (before mid : FramePool)
     (old between : List FrameNo) (f : ℕ)
     (least : least_free before.holds ≡ Some f) (more_is : more ≡ with_hwpt (hwpt_at object width f) tables)
@@ -125,12 +130,12 @@ module _ (object : Object) (width : Width) (m : Memory) (tables more : List Hwpt
     others_kept x empty = by_test (eqb f x) refl (sym (tables_in_with frames (root_frame h) x) ∙ empty)
       where
         by_test : (b : Bool) → eqb f x ≡ b → tables_in frames x + cond b 1 0 ≡ 0 → bytes_of mid x ≡ bytes_of before x
-        by_test true is sum = absurd (omega (arith, sum))
+        by_test true is sum = absurd (no_sum _ sum)
         by_test false is sum = ap (λ (p : FramePool). bytes_of p x) pool_is
             ∙ get_or-set_other before.bytes f x zeros [] (λ same. unlike (sym same))
           where
             unlike : f ≡ x → ⊥
-            unlike same = let here : eqb f x ≡ true = grind (arith, nat_tests) in cc
+            unlike same = clash _ is (eq-eqb f x same)
 
     pub root_filled : IsFilled object width m [] more before mid old between frames leads
     root_filled =
@@ -146,7 +151,7 @@ module _ (object : Object) (width : Width) (m : Memory) (tables more : List Hwpt
               (λ x within page. fails_both (is_object object.file object.id x.object) None (leads x.object page)));
           others = subst (λ (l : List TableFrame). KeepsOthers l before mid) (sym rows_are) others_kept;
           holds = ap (λ (p : FramePool). p.holds) pool_is ∙ ap (held_once before.holds) (sym frame_is);
-          free = omega (arith, taken, held, one);
+          free = one_taken _ _ _ _ taken held one;
           out = out ∙ ap (λ (fs : List FrameNo). old ++ fs) (sym frame_is);
         }
 

@@ -1,9 +1,9 @@
 -- What is kept after a page table came with its tables shows the world with it and them.
-use Rattle.std.proofs.Common.{◌≡◌, ◌⊎◌, ◌<◌, ◌≤◌, ℕ, Bool, true, false, cond, eqb, ltb, is_some, Option, Some, None}
-use Rattle.std.proofs.Common.{List, [], ◌∷◌, ◌++◌, length, map, refl, sym, ◌∙◌, ap, subst, arith, inl, inr}
+use Rattle.std.proofs.Common.{◌≡◌, ◌⊎◌, ◌+◌, ◌<◌, ◌≤◌, ℕ, Bool, true, false, cond, eqb, ltb, is_some, Option, Some}
+use Rattle.std.proofs.Common.{None, List, [], ◌∷◌, ◌++◌, length, map, refl, sym, ◌∙◌, ap, subst, arith, inl, inr}
 use Rattle.std.specs.Prelude.{slice_index}
 use Rattle.std.specs.List.{list_all}
-use Rattle.std.proofs.lemmas.Bool.Decides.{nat_tests}
+use Rattle.std.proofs.lemmas.Bool.{eq-eqb, eqb-true, ltb-true}
 use Rattle.frame_memory.specs.Pool.{FramePool, free_count}
 use Rattle.page_table_set.proofs.Inserted.{in_with}
 use Rattle.page_table_set.proofs.Missing.{least_are_free}
@@ -90,6 +90,15 @@ widths-with_hwpt h (t ∷ tables) own all =
     by_order true rest first = both_true _ _ own all
     by_order false rest first = both_true _ _ first rest
 
+-- ---- numbers of frames
+
+-- a frame's only hold is its table's
+no_more : (holds reaching tables : ℕ) → holds ≡ 1 → 0 < tables → holds ≡ reaching + tables → reaching ≡ 0
+no_more holds reaching tables one some all = omega arith
+
+in_pool : (one x pool size : ℕ) → one < pool → one ≡ x → size ≡ pool → x < size
+in_pool one x pool size below same long = omega arith
+
 module _ {A : Type 0} (at : ℕ) (w : World) (s : State A) (tidy : IsTidy at w) (shows : Shows w s) (file : FileNo)
     (ioas id : ObjId) (width : Width) (automatic : Bool) (roomy : IsRoomy (view w) file ioas width)
     (fresh : is_fresh w.objects file id ≡ true)
@@ -154,7 +163,7 @@ module _ {A : Type 0} (at : ℕ) (w : World) (s : State A) (tidy : IsTidy at w) 
       (stand_yet at w s tidy shows file ioas id width automatic roomy after pool more fresh)
       tidy.tabled.owned some in
       let holds = (frames_pinned at w s tidy shows file ioas id width automatic roomy after pool more).holds x in
-      omega (arith, one, some, holds)
+      no_more _ _ _ one some holds
 
   was_free : (x : ℕ) → 0 < times_in taken x → (x < length pool.holds) × (slice_index pool.holds x ≡ 0)
   was_free x some =
@@ -166,12 +175,12 @@ module _ {A : Type 0} (at : ℕ) (w : World) (s : State A) (tidy : IsTidy at w) 
       let free = and_true (ltb there.one.0 w.settings.pool) _
       (of_each (λ (frame : FrameNo). is_free w.settings.pool w.user_pages w.pins w.table_frames frame.0) taken
       there.one all there.within) in
-      let below : there.one.0 < w.settings.pool = let low = free.0 in search (low, arith, nat_tests) in
-      let same : there.one.0 ≡ x = let it = there.passes in search (it, arith, nat_tests) in
+      let below = ltb-true there.one.0 w.settings.pool free.0 in
+      let same = eqb-true there.one.0 x there.passes in
       let size = (frames_pinned at w s tidy shows file ioas id width automatic roomy after pool more).size in
       let among : are_frames (least_frames pool.holds (length lacked)) x ≡ true =
       ap (λ (fs : List FrameNo). are_frames fs x) (sym taken_is) ∙ some_among there.one there.within there.passes in
-      (omega (arith, below, same, size), least_are_free pool.holds (length lacked) x among)
+      (in_pool _ _ _ _ below same size, least_are_free pool.holds (length lacked) x among)
     where
       some_among : (one : FrameNo) → IsIn taken one → eqb one.0 x ≡ true → are_frames taken x ≡ true
       some_among one within passes = of_any (λ (y : FrameNo). eqb y.0 x) taken one within passes
@@ -228,7 +237,7 @@ module _ {A : Type 0} (at : ℕ) (w : World) (s : State A) (tidy : IsTidy at w) 
   own_width = same (bits_of width)
     where
       same : (n : ℕ) → eqb n n ≡ true
-      same n = grind (arith, nat_tests)
+      same n = eq-eqb n n refl
 
   after_is : tables_after taken [] (with_table w object) ≡ w.table_frames ++ in_frames lacked taken
   unfolding settle

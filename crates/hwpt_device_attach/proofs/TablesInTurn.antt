@@ -1,8 +1,8 @@
 -- The tables that pages ask of a page table, those of some pages and then those of more.
-use Rattle.std.proofs.Common.{◌≡◌, ℕ, ◌-◌, ◌≤◌, Bool, true, false, cond, ◌&&◌, ◌||◌, eqb, List, [], ◌∷◌, ◌++◌, length}
+use Rattle.std.proofs.Common.{◌≡◌, ℕ, ◌-◌, ◌≤◌, Bool, true, false, cond, ◌&&◌, ◌||◌, List, [], ◌∷◌, ◌++◌, length}
 use Rattle.std.proofs.Common.{map, refl, ap, sym, ◌∙◌, arith}
 use Rattle.std.specs.List.{filter, flat_map}
-use Rattle.std.proofs.lemmas.Bool.Decides.{nat_tests}
+use Rattle.std.proofs.lemmas.Bool.{eq-eqb}
 use Rattle.std.proofs.lemmas.Grind.{flat_map-append}
 use Rattle.std.proofs.lemmas.List.{length-map, map-append}
 use Rattle.std.proofs.lemmas.List.Elements.{filter-append}
@@ -44,8 +44,8 @@ module _ (object : Object) where
         frame = frame;
       })) p) ≡ is_place place p
   own_row place p frame =
-      let one : eqb object.file.0 object.file.0 ≡ true = grind (arith, nat_tests) in
-      let two : eqb object.id.0 object.id.0 ≡ true = grind (arith, nat_tests) in
+      let one = eq-eqb object.file.0 object.file.0 refl in
+      let two = eq-eqb object.id.0 object.id.0 refl in
       rw (one, two) refl
 
   new_rows : (places : List TablePlace) (fs : List FrameNo) (p : TablePlace) → length places ≡ length fs
@@ -72,9 +72,7 @@ module _ (object : Object) where
 
 its_place : (place : TablePlace) → is_place place place ≡ true
 its_place place =
-    let one : eqb place.level place.level ≡ true = grind (arith, nat_tests) in
-    let two : eqb place.first place.first ≡ true = grind (arith, nat_tests) in
-    both_true _ _ one two
+    both_true _ _ (eq-eqb place.level place.level refl) (eq-eqb place.first place.first refl)
 
 -- the first of the tables is there then
 first_there : (has : TablePlace → Bool) (place : TablePlace) (places : List TablePlace)

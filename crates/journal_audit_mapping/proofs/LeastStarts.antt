@@ -1,10 +1,10 @@
 -- The least of the addresses that are tried, found one after the other.
-use Rattle.std.proofs.Common.{◌≡◌, ℕ, ◌+◌, ◌-◌, Bool, true, false, cond, ◌&&◌, ◌||◌, not, ltb, min}
+use Rattle.std.proofs.Common.{◌≡◌, ℕ, ◌+◌, ◌-◌, ◌<◌, ◌≤◌, get_or, Bool, true, false, cond, ◌&&◌, ◌||◌, not, ltb, min}
 use Rattle.std.proofs.Common.{Option, Some, None, is_none, is_some, List, [], ◌∷◌, ◌++◌, length, map, take, drop}
 use Rattle.std.proofs.Common.{refl, sym, ap, ◌∙◌, arith}
 use Rattle.std.specs.List.{filter, list_any}
 use Rattle.std.proofs.lemmas.Bool.Decides.{nat_tests}
-use Rattle.std.proofs.lemmas.List.{take-append-drop, take_rest}
+use Rattle.std.proofs.lemmas.List.{at_drop_all, at_drop_more, take-append-drop, take_rest}
 use Rattle.std.proofs.lemmas.List.Folds.{list_any-append}
 use Rattle.iofd_words.specs.Bounds.{Bounds}
 use Rattle.iofd_words.specs.Checks.{choices, has_choice, lacks_choice, least, mapped_start, may_choose, taken_spans}
@@ -61,6 +61,26 @@ least-append p (x ∷ xs) ys =
     ∙ ap (λ o. lesser (passing p x) o) (least-append p xs ys)
     ∙ sym (lesser_assoc (passing p x) (least (filter p xs)) (least (filter p ys)))
     ∙ ap (λ o. lesser o (least (filter p ys))) (sym (least_first p x xs))
+
+-- ---- one address after the other
+
+-- one more is tried
+pub one_tried : {X : Type 0} (p : ℕ → Bool) (f : X → ℕ) (xs : List X) (i : ℕ) (d : X) (old new total : Option ℕ)
+    → i < length xs → new ≡ lesser old (passing p (f (get_or xs i d)))
+    → lesser old (least (filter p (map f (drop i xs)))) ≡ total
+    → lesser new (least (filter p (map f (drop (i + 1) xs)))) ≡ total
+one_tried p f xs i d old new total within is before =
+    ap (λ o. lesser o (least (filter p (map f (drop (i + 1) xs))))) is
+    ∙ lesser_assoc old (passing p (f (get_or xs i d))) (least (filter p (map f (drop (i + 1) xs))))
+    ∙ ap (lesser old) (sym (least_first p (f (get_or xs i d)) (map f (drop (i + 1) xs))))
+    ∙ sym (at_drop_more (λ l. lesser old (least (filter p (map f l)))) xs i d within)
+    ∙ before
+
+-- all are tried
+pub all_tried : {X : Type 0} (p : ℕ → Bool) (f : X → ℕ) (xs : List X) (i : ℕ) (old total : Option ℕ)
+    → length xs ≤ i → lesser old (least (filter p (map f (drop i xs)))) ≡ total → old ≡ total
+all_tried p f xs i old total past before =
+    sym (none_less old) ∙ sym (at_drop_all (λ l. lesser old (least (filter p (map f l)))) xs i past) ∙ before
 
 -- there is a least one just where there is one
 some_least : (p : ℕ → Bool) (numbers : List ℕ) → not (list_any p numbers) ≡ is_none (least (filter p numbers))

@@ -4,5 +4,6 @@ pub mod LeastStarts
 pub mod ListedPins
 pub mod Mapped
 pub mod PageRows
+pub mod Pushed
 pub mod RefusedRows
 pub mod SettledNew

@@ -19,6 +19,17 @@ use Rattle.page_table_spans.proofs.Lacking.{and_one, lacking_alike}
 use Rattle.page_table_spans.proofs.LevelNumbers.{both_all, from_on, is_new, or_before, pages_of_level}
 use Rattle.page_table_spans.proofs.SpanNeeds.{further, last_page, pages_are}
 
+-- without its first area a list is shorter
+pub shorter : (all rest : List Area) (area : Area) → all ≡ area ∷ rest → length rest < length all
+shorter all rest area is =
+    let longer : length (area ∷ rest) ≡ length rest + 1 = omega arith in
+    let same = ap (λ (l : List Area). length l) is in
+    omega (arith, longer, same)
+
+-- what is counted of numbers below a bound is no more than that
+pub at_most : (total next most : ℕ) → total ≤ next → next ≤ most → total ≤ most
+at_most total next most few bound = omega (arith, few, bound)
+
 -- no table is there
 abbrev pub nothing : TablePlace → Bool
 nothing place = false

@@ -4,7 +4,7 @@ use Rattle.std.proofs.Common.{None, List, [], ◌∷◌, length, get_or, set, re
 use Rattle.std.specs.List.{count_by, position_or_len}
 use Rattle.std.specs.Option.{option_map_or}
 use Rattle.std.proofs.lemmas.Bool.Decides.{nat_tests}
-use Rattle.std.proofs.lemmas.Bool.{cases_eq, cases_lt}
+use Rattle.std.proofs.lemmas.Bool.{cases_eq, cases_lt, ltb-true}
 use Rattle.std.proofs.lemmas.List.{get_or-set_other, get_or-set_same, length-set, set_past}
 use Rattle.frame_memory.specs.Pool.{FramePool, free_count, least_free}
 use Rattle.iofd_words.specs.Frames.{FrameWrite}
@@ -112,6 +112,29 @@ least_frames_alike (suc n) a b alike =
     by_least None later = refl
     by_least (Some f) later = ap (λ (fs : List FrameNo). record { 0 = f } ∷ fs) (later f)
 
+-- ---- holds that are counted
+
+no_count : (n : ℕ) → ltb 0 n ≡ false → n ≡ 0
+no_count n none = grind (arith, nat_tests)
+
+named_more : (pages pins : ℕ) → 0 < pins → 0 < pages + pins
+named_more pages pins some = omega arith
+
+named_still : (old_pages old_pins pages pins : ℕ) → old_pins ≡ 0 → pages ≡ old_pages → 0 < old_pages + old_pins
+    → 0 < pages + pins
+named_still old_pages old_pins pages pins few same named = omega arith
+
+both_or_none : (r s t a b : ℕ) → a ≡ s + t → b ≡ r + t → (0 < r → 0 < s) → (0 < s → 0 < r) → eqb a 0 ≡ eqb b 0
+both_or_none zero zero t a b first second there back = ap is_none (first ∙ sym second)
+both_or_none zero (suc s) t a b first second there back =
+    absurd (let some = back (omega arith) in omega (arith, some))
+both_or_none (suc r) zero t a b first second there back =
+    absurd (let some = there (omega arith) in omega (arith, some))
+both_or_none (suc r) (suc s) t a b first second there back =
+    let one : eqb a 0 ≡ false = grind (arith, nat_tests) in
+    let two : eqb b 0 ≡ false = grind (arith, nat_tests) in
+    one ∙ sym two
+
 -- ---- pins that come
 
 module _ (old new : Memory) (before after : FramePool) (pool : ℕ) (writes : List FrameWrite) (tables : List TableFrame)
@@ -147,25 +170,13 @@ module _ (old new : Memory) (before after : FramePool) (pool : ℕ) (writes : Li
           (stays (record { memory = found.number; index = found.index })
           (was_pinned (record { memory = found.number; index = found.index }) found.found found.pinned)))
           (still_at (record { memory = found.number; index = found.index }) found.found found.pinned) found.names in
-          let positive : 0 < pins_on new.objects f = search (counted, arith, nat_tests) in
-          omega (arith, positive)
+          named_more _ _ (ltb-true _ _ counted)
       by_pins false none =
-          let few : pins_on old.objects f ≡ 0 = search (none, arith, nat_tests) in
+          let few = no_count (pins_on old.objects f) none in
           let same : count_by (λ (p : UserPage). eqb p.frame.0 f) new.pages ≡ count_by
           (λ (p : UserPage). eqb p.frame.0 f) old.pages =
           ap (count_by (λ (p : UserPage). eqb p.frame.0 f)) settles.pages in
-          omega (arith, few, same, named)
-
-  both_or_none : (r s t a b : ℕ) → a ≡ s + t → b ≡ r + t → (0 < r → 0 < s) → (0 < s → 0 < r) → eqb a 0 ≡ eqb b 0
-  both_or_none zero zero t a b first second there back = ap is_none (first ∙ sym second)
-  both_or_none zero (suc s) t a b first second there back =
-      absurd (let some = back (omega arith) in omega (arith, some))
-  both_or_none (suc r) zero t a b first second there back =
-      absurd (let some = there (omega arith) in omega (arith, some))
-  both_or_none (suc r) (suc s) t a b first second there back =
-      let one : eqb a 0 ≡ false = grind (arith, nat_tests) in
-      let two : eqb b 0 ≡ false = grind (arith, nat_tests) in
-      one ∙ sym two
+          named_still _ _ _ _ few same named
 
   -- the same frames are free
   pub free_alike : AreAlike after.holds before.holds

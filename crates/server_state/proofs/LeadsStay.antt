@@ -1,7 +1,7 @@
 -- Pages lead where they did, as long as their live areas and the pins of these stay.
 use Rattle.std.proofs.Common.{◌≡◌, ℕ, ◌<◌, Bool, true, false, cond, ◌&&◌, eqb, ltb, Option, Some, None, List, [], ◌∷◌}
-use Rattle.std.proofs.Common.{map, refl, ap, sym, ◌∙◌, inl, inr, arith}
-use Rattle.std.proofs.lemmas.Bool.Decides.{nat_tests}
+use Rattle.std.proofs.Common.{map, refl, ap, sym, ◌∙◌, inl, inr}
+use Rattle.std.proofs.lemmas.Bool.{eq-eqb, lt-ltb, ltb-true}
 use Rattle.iofd_rows.proofs.Bools.{and_true, both_true}
 use Rattle.iofd_rows.proofs.Each.{IsIn, in_filter, in_found, of_any}
 use Rattle.iofd_rows.proofs.Named.{file_is, id_is}
@@ -71,7 +71,7 @@ spaces_alike w new objects tables pool frames are alike stand =
     by_kind file page (kind.Hwpt ioas width automatic) has = alike file ioas page (has ioas same)
       where
         same : eqb ioas.0 ioas.0 ≡ true
-        same = grind (arith, nat_tests)
+        same = eq-eqb ioas.0 ioas.0 refl
     by_kind file page (kind.Device device) has = refl
     by_kind file page (kind.Access attached) has = refl
 
@@ -79,7 +79,7 @@ spaces_alike w new objects tables pool frames are alike stand =
     each h within page =
         let there : IsIn (page_tables_among objects) h.object = rw are at (in_mapped tables h within) in
         let among = (in_filter (λ (o : Object). is_hwpt o.kind) objects h.object there).0 in
-        let here : eqb h.object.file.0 h.object.file.0 ≡ true = grind (arith, nat_tests) in
+        let here = eq-eqb h.object.file.0 h.object.file.0 refl in
         by_kind h.object.file page h.object.kind
         (λ ioas is. of_any (λ (o : Object). eqb o.file.0 h.object.file.0 && is_hwpt_over ioas o.kind) objects h.object
         among (both_true _ _ here is))
@@ -117,7 +117,7 @@ pub is_translated : (objects : List Object) (areas : List Area) (file : FileNo) 
 is_translated objects areas file ioas page a has found =
     let of = in_filter (is_of file ioas) areas a (in_found _ (areas_of areas file ioas) a found).0 in
     let names = and_true (eqb a.file.0 file.0) (eqb a.ioas.0 ioas.0) of.1 in
-    let own : eqb a.memory a.memory ≡ true = grind (arith, nat_tests) in
+    let own = eq-eqb a.memory a.memory refl in
     let same_file : a.file ≡ file = file_is a.file file names.0 in
     let same_ioas : a.ioas ≡ ioas = id_is a.ioas ioas names.1 in
     let there : has_hwpt objects a.file a.ioas ≡ true = rw (same_file, same_ioas) has in
@@ -125,7 +125,7 @@ is_translated objects areas file ioas page a has found =
     (both_true _ _ own there) in
     let counted : ltb 0 (translated objects areas a.memory) ≡ true =
     sym (any_count (λ (x : Area). eqb x.memory a.memory && has_hwpt objects x.file x.ioas) areas) ∙ some in
-    search (counted, arith, nat_tests)
+    ltb-true _ _ counted
 
 module _ (at : ℕ) (w new : World) (old after : Memory) (before pool : FramePool) (pins : ArePinned at w)
     (was : PinsShown w.objects w.areas w.memory w.pins w.access_pins old)
@@ -138,10 +138,10 @@ module _ (at : ℕ) (w new : World) (old after : Memory) (before pool : FramePoo
   pin_stays page rows some more = is.frames page ∙ settles.frames page ∙ by_page (has_page (rows_of old) page) refl
     where
       pinned : ltb 0 (table_pins old page.memory) ≡ true
-      pinned = search (some, arith, nat_tests)
+      pinned = lt-ltb _ _ some
 
       pinned_after : ltb 0 (table_pins after page.memory) ≡ true
-      pinned_after = search (more, arith, nat_tests)
+      pinned_after = lt-ltb _ _ more
 
       by_page : (b : Bool) → has_page (rows_of old) page ≡ b
           → cond (is_pinned after page) (cond (is_pinned old page) (memory.pinned_frame old page)

@@ -1,10 +1,13 @@
-use Rattle.std.proofs.Common.{◌∙◌, List, refl, subst, sym, take}
+use Rattle.std.proofs.Common.{◌≡◌, ◌∙◌, List, true, refl, subst, sym, take}
+use Rattle.std.specs.List.{list_all}
 use Rattle.area_map.proofs.Room.{at_answer, at_error}
+use Rattle.iofd_words.specs.Span.{meets}
 use Rattle.iofd_words.specs.declared.rows.Area.{Area}
 use Rattle.memory_objects.specs.declared.run.PageRun.{PageRun}
 use Rattle.user_memory.specs.Changes.{HasRunPinned}
 use Rattle.access_pages.proofs.PinSteps.{Pinning, next_has_room, next_is_few, next_lies, next_meets, next_present}
-use Rattle.access_pages.proofs.PinSteps.{pinning_first, pinning_further, unpinned_in}
+use Rattle.access_pages.proofs.PinSteps.{counts_one_more, pinning_first, pinning_further, pinning_last, unpinned_in}
+use Rattle.access_pages.proofs.Firsts.{shorter}
 use Rattle.access_pages.proofs.Undone.{may_undo, none_done, undone}
 use Rattle.access_pages.specs.Runs.{AreReleased, MayRelease, run_in, runs_in}
 use Rattle.access_pages.proofs.runs.pin_all.Goals as goal
@@ -102,3 +105,26 @@ loop-area-preserved g c =
     (subst M c.run_in.ensures (at_answer c.pin_by_access.result (sym c.is_err.ensures.value ∙ c.if-is_err.false)
     c.pin_by_access.ensures.more))
     (at_answer c.pin_by_access.result (sym c.is_err.ensures.value ∙ c.if-is_err.false) c.pin_by_access.ensures.settles)
+
+pub pin_by_access-requires-clause-backed : goal.pin_by_access-requires-clause-backed
+pin_by_access-requires-clause-backed g c = c.loop-area.invariant.may.backed
+
+pub unpin_first-requires-clause-met : goal.unpin_first-requires-clause-met
+unpin_first-requires-clause-met g c =
+    let M : List Area → Type 0 = λ areas. list_all (λ (area : Area). meets area.span c.args.span) areas ≡ true in
+    subst M (sym c.again-all.ensures) c.requires.met
+
+pub overflow_add-count : goal.overflow_add-count
+overflow_add-count g c =
+    counts_one_more c.args.span c.args.areas c.loop-area.area-iterator c.next.new.self c.in-Some.area.now
+    c.loop-area.count c.args.memory.now c.loop-area.memory c.args.pool.now c.loop-area.pool c.loop-area.invariant
+    c.in-Some.ensures.steps c.requires.few
+
+pub loop-area-smaller : goal.loop-area-smaller
+loop-area-smaller g c =
+    shorter c.loop-area.area-iterator c.next.new.self c.in-Some.area.now c.in-Some.ensures.steps
+
+pub returns-clause-ok : goal.returns-clause-ok
+returns-clause-ok g c =
+    pinning_last c.args.span c.args.areas c.loop-area.area-iterator c.loop-area.count c.args.memory.now
+    c.loop-area.memory c.args.pool.now c.loop-area.pool c.loop-area.invariant c.in-None.ensures.steps.0

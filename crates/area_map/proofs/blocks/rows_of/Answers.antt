@@ -1,8 +1,19 @@
-use Rattle.std.proofs.Common.{◌≡◌, ◌∙◌, ℕ, ◌-◌, ◌*◌, List, take, drop, length, ap}
+use Rattle.std.proofs.Common.{◌≡◌, ◌∙◌, ℕ, ◌-◌, ◌*◌, ◌≤◌, List, take, drop, length, min, ap, arith}
 use Rattle.std.proofs.lemmas.List.{drop_min, take_min, take_rest}
 use Rattle.iofd_words.specs.declared.rows.Area.{Area}
 use Rattle.area_map_rows.proofs.Rows.{AreRows-take, AreRows-drop}
 use Rattle.area_map.proofs.blocks.rows_of.Goals as goal
+
+within : (at place count : ℕ) → at ≡ min place count → at ≤ count
+within at place count is = omega (arith, is)
+
+pub offset_bounds-rows-begin_of : goal.offset_bounds-rows-begin_of
+offset_bounds-rows-begin_of g c =
+    within c.begin_of.result (32 * c.args.number) (length c.args.rows.now) c.begin_of.ensures
+
+pub slice_bounds-rest-count : goal.slice_bounds-rest-count
+slice_bounds-rest-count g c =
+    within c.begin_of.result (32 * c.args.number) (length c.args.rows.now) c.begin_of.ensures
 
 pub returns-clause-value : goal.returns-clause-value
 returns-clause-value g c =

@@ -34,3 +34,27 @@ returns-clause-value g c =
     ∙ ap (λ (n : ℕ). first_free n c.args.count (in_rows (drop stop rows))) first
     ∙ free-own c.args.start c.args.count below stop rows c.requires.rows c.requires.apart
     c.rows_below-below.ensures.value order
+
+pub rows_below-below-requires-clause-apart : goal.rows_below-below-requires-clause-apart
+rows_below-below-requires-clause-apart g c = c.requires.apart
+
+pub rows_below-below-requires-clause-rows : goal.rows_below-below-requires-clause-rows
+rows_below-below-requires-clause-rows g c = c.requires.rows
+
+pub offset_bounds-rows-below : goal.offset_bounds-rows-below
+offset_bounds-rows-below g c = c.rows_below-below.ensures.bound
+
+pub free_in_blocks-requires-clause-start : goal.free_in_blocks-requires-clause-start
+free_in_blocks-requires-clause-start g c = c.free_in_rows-at.ensures.bound
+
+pub free_in_blocks-requires-clause-apart : goal.free_in_blocks-requires-clause-apart
+free_in_blocks-requires-clause-apart g c = c.requires.apart
+
+pub free_in_blocks-requires-clause-rows : goal.free_in_blocks-requires-clause-rows
+free_in_blocks-requires-clause-rows g c = c.requires.rows
+
+pub free_in_blocks-requires-clause-blocks : goal.free_in_blocks-requires-clause-blocks
+free_in_blocks-requires-clause-blocks g c = c.requires.blocks
+
+pub returns-clause-bound : goal.returns-clause-bound
+returns-clause-bound g c = c.free_in_blocks.ensures.bound

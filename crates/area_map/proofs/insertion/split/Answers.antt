@@ -1,7 +1,11 @@
 use Rattle.std.proofs.Common.{◌≡◌, ◌∙◌, suc, ◌+◌, ◌-◌, List, [], length, take, drop, set, get_or, refl, ap, arith}
+use Rattle.std.proofs.Common.{subst, sym}
 use Rattle.std.specs.List.{insert}
+use Rattle.std.specs.Prelude.{IsSome, Option, vec_capacity, vec_len}
+use Rattle.std.proofs.lemmas.Bool.{false≢true}
 use Rattle.std.proofs.lemmas.List.{take_at, length-drop, length-set, length-take-le}
 use Rattle.iofd_words.specs.declared.rows.Area.{Area}
+use Rattle.area_map.specs.Kept.{IsSpare}
 use Rattle.area_map.proofs.Joined.{joined-split}
 use Rattle.area_map.proofs.RowsAdded.{parts_in_rows, parts_are_rows}
 use Rattle.area_map.proofs.RowsSame.{before_split}
@@ -65,3 +69,38 @@ returns-in-Some-clause-joined g c =
     rw (parted g c, next) (joined-split rows i (take at row) (drop at row) c.requires.bound c.requires.before
     (rw next at c.requires.behind) (omega (arith, lower, upper, few)) (omega (arith, lower, half))
     (λ within. let is = middle (omega (arith, within)) in omega (arith, upper, is)) c.requires.joined)
+
+pub cut-requires-clause-upper : goal.cut-requires-clause-upper
+cut-requires-clause-upper g c =
+    (subst (λ (spare : Option (List Area)). IsSpare spare (vec_len c.args.rows.now) (vec_capacity c.args.rows.now))
+    (sym c.take.ensures.value ∙ c.in-Some.is) c.requires.spare).0
+
+pub returns-in-Some-clause-spare : goal.returns-in-Some-clause-spare
+returns-in-Some-clause-spare g c = c.take.ensures.after
+
+pub returns-in-Some-clause-len : goal.returns-in-Some-clause-len
+returns-in-Some-clause-len g c = rw c.unwrap.ensures at c.insert.ensures.len
+
+-- there is a spare row
+spare_there : (g : given.Over) (c : goal.In_default g) → ⊥
+spare_there g c =
+    let spare = sym c.take.ensures.value ∙ c.in_default.is in
+    false≢true (subst (λ (o : Option (List Area)). IsSome o) spare c.requires.some)
+
+pub returns-in_default-clause-areas : goal.returns-in_default-clause-areas
+returns-in_default-clause-areas g c = refl
+
+pub returns-in_default-clause-rows : goal.returns-in_default-clause-rows
+returns-in_default-clause-rows g c = absurd (spare_there g c)
+
+pub returns-in_default-clause-joined : goal.returns-in_default-clause-joined
+returns-in_default-clause-joined g c = c.requires.joined
+
+pub returns-in_default-clause-spare : goal.returns-in_default-clause-spare
+returns-in_default-clause-spare g c = c.take.ensures.after
+
+pub returns-in_default-clause-len : goal.returns-in_default-clause-len
+returns-in_default-clause-len g c = absurd (spare_there g c)
+
+pub returns-in_default-clause-before : goal.returns-in_default-clause-before
+returns-in_default-clause-before g c = refl

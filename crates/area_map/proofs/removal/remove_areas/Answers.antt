@@ -1,4 +1,4 @@
-use Rattle.std.proofs.Common.{◌≡◌, ◌∙◌, ◌-◌, ◌==◌, not, take, drop, List, length, map, refl, ap, arith}
+use Rattle.std.proofs.Common.{◌≡◌, ◌∙◌, ◌-◌, ◌≤◌, ◌==◌, ℕ, not, take, drop, List, length, map, refl, ap, arith}
 use Rattle.std.proofs.Math.Nat.{le_refl}
 use Rattle.std.proofs.Math.Seq.{drop-append_seam}
 use Rattle.std.specs.List.{filter}
@@ -9,6 +9,14 @@ use Rattle.area_map_rows.proofs.Rows.{written_back}
 use Rattle.area_map.proofs.RowsRemoved.{outside_in_rows, few_outside, nonempty_in_rows, nonempty_rows}
 use Rattle.area_map.proofs.RowsSame.{filled_count, filled_front, filled_parts, same_dropped, slice_back}
 use Rattle.area_map.proofs.removal.remove_areas.Goals as goal
+
+within : (to long many count : ℕ) → to ≤ long → long ≡ many → count ≡ many → to ≤ count
+within to long many count low is counted = omega (arith, low, is, counted)
+
+pub overflow_sub-result : goal.overflow_sub-result
+overflow_sub-result g c =
+    within c.remove_within-from.result.1 _ _ c.len-count.result c.remove_within-from.ensures.bound
+    c.deref_mut.ensures.len c.len-count.ensures
 
 pub returns-then-not-empty-clause-areas : goal.returns-then-not-empty-clause-areas
 returns-then-not-empty-clause-areas g c =
@@ -158,3 +166,12 @@ returns-clause-order g c =
     let front = filled_front part.result.0 part.result.1 rows part.new.rows c.requires.rows others.before
     part.ensures.order (omega (arith, bound, part.ensures.order)) in
     omega (arith, count, left, bound, front)
+
+pub returns-then-not-empty-clause-rest : goal.returns-then-not-empty-clause-rest
+returns-then-not-empty-clause-rest g c = record {
+  place = c.remove_within-from.result.1;
+  rest = (returns-then-not-empty-clause-others g c).behind;
+}
+
+pub returns-then-not-empty-clause-order : goal.returns-then-not-empty-clause-order
+returns-then-not-empty-clause-order g c = c.remove_within-from.ensures.order

@@ -1,4 +1,5 @@
-use Rattle.std.proofs.Common.{◌≡◌, ◌∙◌, ap, refl, sym, set, arith}
+use borrow.Author.Rules.{scaled_Fits}
+use Rattle.std.proofs.Common.{◌≡◌, ◌∙◌, ap, refl, sym, set, length, arith}
 use Rattle.std.proofs.lemmas.List.Edits.{map_over_more}
 use Rattle.iofd_words.specs.Dirty.{TrackedTable}
 use Rattle.journal_audit_world.specs.Tracked.{with_page}
@@ -23,3 +24,7 @@ returns g c =
     c.args.rows.now.items c.deref_mut-row-items.result.now c.loop-row.row-items c.args.rows.now.len
     c.loop-row.row-index c.deref_mut-row-items.ensures.value c.deref_mut-row-items.ensures.len c.loop-row-test.false
     c.loop-row.invariant
+
+pub offset_bounds-row-items-row-index : goal.offset_bounds-row-items-row-index
+offset_bounds-row-items-row-index g c =
+    scaled_Fits c.loop-row.row-index (length c.deref_mut-row-items.result.now) _ c.loop-row-test.true assumption

@@ -15,6 +15,7 @@ use Rattle.page_table_words.specs.Rows.{TableRow}
 use Rattle.page_table.proofs.Parting.{count_never}
 use Rattle.page_table_spans.specs.Idle.{is_idle, is_idle_at, is_idle_between}
 use Rattle.page_table_spans.specs.Spans.{IsOfPages}
+use Rattle.page_table_spans.proofs.AreaTables.{at_most, shorter}
 use Rattle.page_table_spans.proofs.IdleAreas.{AreLeft, all_left, gap, one_less, order}
 use Rattle.page_table_spans.proofs.IdleTables.{all_between, count_alike, more_between, needed_each, none_between, number_few}
 use Rattle.page_table_spans.proofs.IdleTables.{sum_between}
@@ -140,3 +141,26 @@ returns-clause-idle g c = λ rows mapped stands needed.
     (λ row is. all_between levels own c.args.span c.args.level rows row is.0 is.1 next
     (λ n from met. false≢true (are.rest n from met)))
     (needed_each c.args.pool.now levels c.args.table.now.root rows mapped own stands needed)))
+
+pub count_between-total-requires-clause-table : goal.count_between-total-requires-clause-table
+count_between-total-requires-clause-table g c = c.requires.table
+
+pub count_between-total-requires-clause-uncut : goal.count_between-total-requires-clause-uncut
+count_between-total-requires-clause-uncut g c = c.requires.areas.uncut
+
+pub count_between-total-requires-clause-apart : goal.count_between-total-requires-clause-apart
+count_between-total-requires-clause-apart g c = c.within-area-items.ensures.kept.apart
+
+pub count_between-total-requires-clause-some : goal.count_between-total-requires-clause-some
+count_between-total-requires-clause-some g c = c.requires.some
+
+pub count_between-total-requires-clause-low : goal.count_between-total-requires-clause-low
+count_between-total-requires-clause-low g c = c.requires.low
+
+pub loop-area-smaller : goal.loop-area-smaller
+loop-area-smaller g c =
+    shorter c.loop-area.area-iterator c.next.new.self c.in-Some.area.now c.in-Some.ensures.steps
+
+pub returns-clause-small : goal.returns-clause-small
+returns-clause-small g c =
+    at_most c.loop-area.total c.loop-area.next _ c.loop-area.invariant.few c.loop-area.invariant.bound

@@ -4,10 +4,49 @@ use Rattle.iofd_words.specs.Span.{is_whole_pages}
 use Rattle.iofd_words.specs.TablePlaces.{is_live, live_pages}
 use Rattle.iofd_words.specs.declared.rows.Area.{Area}
 use Rattle.page_table_words.proofs.Needs.{next_number, number_grows, number_small}
-use Rattle.page_table_spans.proofs.AreaTables.{area_more, leaving_first, nothing}
+use Rattle.page_table_spans.proofs.AreaTables.{area_more, at_most, leaving_first, nothing, shorter}
 use Rattle.page_table_spans.proofs.ByLevel.{lacked_at}
 use Rattle.page_table_spans.proofs.LevelNumbers.{or_before}
+use Rattle.page_table_spans.proofs.SpanNeeds.{before_none}
 use Rattle.page_table_spans.proofs.needing.count_at.Goals as goal
+
+none_yet : (rest all : ℕ) → rest ≡ all → 0 + rest ≡ all
+none_yet rest all is = omega (arith, is)
+
+all_counted : (total all : ℕ) → total + 0 ≡ all → total ≡ all
+all_counted total all sum = omega (arith, sum)
+
+pub loop-area-init : goal.loop-area-init
+loop-area-init g c =
+    rw c.into_iter-area-iterator.ensures.into_iter_gives (record {
+      low = 0;
+      apart = c.requires.apart;
+      whole = c.requires.pages;
+      near = omega arith;
+      few = omega arith;
+      bound = omega arith;
+      value = none_yet _ _ (before_none nothing c.args.level (live_pages c.args.areas));
+    })
+
+pub loop-area-smaller-then-is_live : goal.loop-area-smaller-then-is_live
+loop-area-smaller-then-is_live g c =
+    shorter c.loop-area.area-iterator c.next.new.self c.in-Some.area.now c.in-Some.ensures.steps
+
+pub loop-area-smaller : goal.loop-area-smaller
+loop-area-smaller g c =
+    shorter c.loop-area.area-iterator c.next.new.self c.in-Some.area.now c.in-Some.ensures.steps
+
+pub returns-clause-small : goal.returns-clause-small
+returns-clause-small g c =
+    at_most c.loop-area.total c.loop-area.next _ c.loop-area.invariant.few c.loop-area.invariant.bound
+
+pub returns-clause-value : goal.returns-clause-value
+returns-clause-value g c =
+    let level = c.args.level in
+    let none = ap (λ (areas : List Area). c.loop-area.total + lacked_at (or_before nothing level c.loop-area.next)
+    (live_pages areas) level) c.in-None.ensures.steps.0 in
+    all_counted c.loop-area.total (lacked_at nothing (live_pages c.args.areas) level)
+    (sym none ∙ c.loop-area.invariant.value)
 
 pub overflow_add-next : goal.overflow_add-next
 overflow_add-next g c =

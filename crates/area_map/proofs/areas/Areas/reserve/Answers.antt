@@ -44,3 +44,9 @@ returns-clause-unchanged g c =
     c.reserve.new.rows.items)
     (length c.self.inside.rows.items) (ap in_rows c.reserve.ensures.rows) (ap length c.reserve.ensures.rows)
     c.reserve.ensures.err c.reserve.ensures.unchanged)
+
+pub returns-clause-leaving : goal.returns-clause-leaving
+returns-clause-leaving g c = rw (← c.self.view_is) refl
+
+pub returns-clause-rows : goal.returns-clause-rows
+returns-clause-rows g c = rw (c.reserve.ensures.rows, ← c.self.view_is) refl

@@ -1,16 +1,43 @@
-use Rattle.std.proofs.Common.{◌≡◌, ℕ, ◌+◌, ◌-◌, ◌*◌, ◌<◌, Bool, true, false, Option, None, Some, cond, refl, ap}
+use Rattle.std.proofs.Common.{◌≡◌, ℕ, ◌+◌, ◌-◌, ◌*◌, ◌<◌, ◌≤◌, Bool, true, false, Option, None, Some, cond, refl, ap}
 use Rattle.std.proofs.Common.{sym, subst, ◌∙◌, arith}
 use Rattle.std.specs.BTreeMap.{is_at}
 use Rattle.std.specs.Map.{lookup, set_value}
 use Rattle.std.specs.Option.{unwrap_or}
 use Rattle.std.specs.Prelude.{IsSome, nat_lt}
+use Rattle.std.proofs.lemmas.Bool.{false≢true, true≢false}
 use Rattle.std.proofs.lemmas.Bool.Decides.{nat_tests}
 use Rattle.held_pins.specs.Counts.{ArePositive, count_in, weighed}
 use Rattle.held_pins.proofs.Rows.{by_order, counted_less, once_more, positive_set, set_same, weighed_set}
 use Rattle.held_pins.proofs.counts.Counts.remove_one.Goals as goal
 use Rattle.held_pins.proofs.counts.Counts.remove_one.Goals.{in-Some, in-Some-2, in-None, Joined-get_mut}
 
--- what is found is how often the key is counted
+-- ---- numbers
+
+some_left : (n : ℕ) → 1 < n → 0 < n - 1
+some_left n often = omega arith
+
+is_often : (n : ℕ) → 1 < n → true ≡ nat_lt 1 n
+is_often n often = grind (arith, nat_tests)
+
+is_seldom : (n : ℕ) → n ≤ 1 → false ≡ nat_lt 1 n
+is_seldom n few = grind (arith, nat_tests)
+
+none_few : 0 ≤ 1
+none_few = omega arith
+
+one_less : (n counted : ℕ) → 1 < n → counted ≡ n → (n - 1) + 1 ≡ counted
+one_less n counted often is = omega arith
+
+-- what is counted once less weighs so much less
+weighs_less : (n weight set was new now : ℕ) → 1 < n → set + n * weight ≡ was + (n - 1) * weight → new ≡ set
+    → was ≡ now → now ≡ new + weight
+weighs_less n weight set was new now often less is seen =
+    let back : (n - 1) + 1 ≡ n = omega arith in
+    let once = once_more (n - 1) weight in
+    let all = ap (λ m. m * weight) back in
+    omega (arith, less, is, seen, once, all)
+
+-- ---- what is found is how often the key is counted
 counted : (g : _) (c : goal.Joined-get_mut g) (o : Option ℕ)
     → o ≡ lookup (g.K.PartialEq.eq c.args.key) c.self.inside.rows.entries
     → lookup (is_at (g.K.Ord.cmp c.args.key)) c.self.inside.rows.entries ≡ o
@@ -27,7 +54,7 @@ invariant_of-self g c =
           let n = w.in-Some.count.now in
           let held = c.get_mut.follows.holds (n - 1) in
           let often = w.if-get_mut-gt1.true in
-          let some : 0 < n - 1 = omega (arith, often) in
+          let some = some_left n often in
           subst ArePositive (sym (ap (λ m. m.rows.entries) w.self-inside-is ∙ held.0))
           (positive_set test rows (n - 1) some c.self.invariant)
       | in-Some-2 w ↦
@@ -53,17 +80,17 @@ returns-clause-test g c =
           let n = w.in-Some.count.now in
           let found = counted g c (Some n) w.in-Some.ensures.value in
           let often = w.if-get_mut-gt1.true in
-          let yes : true ≡ nat_lt 1 n = grind (arith, nat_tests) in
+          let yes = is_often n often in
           w.result-is ∙ yes ∙ sym (ap (λ (o : Option ℕ). nat_lt 1 (unwrap_or o 0)) found) ∙ seen
       | in-Some-2 w ↦
           let n = w.in-Some.count.now in
           let found = counted g c (Some n) w.in-Some.ensures.value in
           let few = w.if-get_mut-gt1.false in
-          let no : false ≡ nat_lt 1 n = grind (arith, nat_tests) in
+          let no = is_seldom n few in
           w.result-is ∙ no ∙ sym (ap (λ (o : Option ℕ). nat_lt 1 (unwrap_or o 0)) found) ∙ seen
       | in-None w ↦
           let found = counted g c None w.in-None.ensures.value in
-          let no : false ≡ nat_lt 1 0 = grind (arith, nat_tests) in
+          let no = is_seldom 0 none_few in
           w.result-is ∙ no ∙ sym (ap (λ (o : Option ℕ). nat_lt 1 (unwrap_or o 0)) found) ∙ seen
     ]
 
@@ -72,7 +99,7 @@ returns-clause-unchanged g c =
     let rows = c.self.inside.rows.entries in
     let test = g.K.PartialEq.eq c.args.key in
     elim c.match-get_mut.branch [
-      | in-Some w ↦ rw w.result-is (λ yes. cc)
+      | in-Some w ↦ rw w.result-is (λ is. absurd (true≢false is))
       | in-Some-2 w ↦
           let n = w.in-Some.count.now in
           let held = c.get_mut.follows.holds n in
@@ -104,12 +131,12 @@ returns-clause-counts g c =
           λ q. ap (λ m. lookup (g.K.PartialEq.eq q) m.rows.entries) w.self-inside-is ∙ updated.0 q in
           let was = ap (λ (o : Option ℕ). unwrap_or o 0) found in
           λ yes other.
-          counted_less cmp g.met.K.Ord.total rows new key (Some (n - 1)) (omega (arith, often, was))
+          counted_less cmp g.met.K.Ord.total rows new key (Some (n - 1)) (one_less n (count_in cmp rows key) often was)
           (subst (λ (eq : _ → _ → Bool). (q : _)
           → lookup (eq q) new ≡ cond (eq key q) (Some (n - 1)) (lookup (eq q) rows)) same finds) other
           ∙ ap (λ seen. count_in cmp seen other) c.self.view_is
-      | in-Some-2 w ↦ rw w.result-is (λ no. cc)
-      | in-None w ↦ rw w.result-is (λ no. cc)
+      | in-Some-2 w ↦ rw w.result-is (λ is. absurd (false≢true is))
+      | in-None w ↦ rw w.result-is (λ is. absurd (false≢true is))
     ]
 
 pub returns-clause-weights : goal.returns-clause-weights
@@ -131,10 +158,7 @@ returns-clause-weights g c =
           let less = weighed_set weight (is_at (cmp key)) (weight key) alike rows n (n - 1) found in
           let is = ap (weighed weight) set in
           let seen = ap (weighed weight) c.self.view_is in
-          let back : (n - 1) + 1 ≡ n = omega (arith, often) in
-          let once = once_more (n - 1) (weight key) in
-          let all = ap (λ m. m * weight key) back in
-          omega (arith, less, is, seen, once, all)
-      | in-Some-2 w ↦ rw w.result-is (λ no. cc)
-      | in-None w ↦ rw w.result-is (λ no. cc)
+          weighs_less n (weight key) _ _ _ _ often less is seen
+      | in-Some-2 w ↦ rw w.result-is (λ is. absurd (false≢true is))
+      | in-None w ↦ rw w.result-is (λ is. absurd (false≢true is))
     ]
