@@ -6,8 +6,8 @@
 use Rattle.std.specs.Prelude.{List, [], ◌∷◌, ◌++◌}
 use Rattle.std.specs.declared.alloc.Global.{Global}
 use Rattle.iofd_examples.specs.ReadyWorld.{ready}
-use Rattle.iofd_examples.specs.Words.{Refusals, answers_id, area_row, attach, file, hwpt_alloc, ioas_row, moving}
-use Rattle.iofd_examples.specs.Words.{refused, step}
+use Rattle.iofd_examples.specs.Words.{Refusals, answers_id, area_row, attach, destroy, file, hwpt_alloc, ioas_row}
+use Rattle.iofd_examples.specs.Words.{moving, refused, step}
 use Rattle.iofd_words.specs.World.{World}
 use Rattle.iofd_words.specs.declared.record.Record.{Record}
 use Rattle.iofd_words.specs.declared.refusal.Cause.TheVariants as cause
@@ -63,6 +63,8 @@ refusals =
     ∷ (attach 9 4, [])
     ∷ (attach 7 4, cause.Width ∷ [])
     ∷ (hwpt_alloc 2 2 1, [])
+    -- an address space goes with an area that is leaving
+    ∷ (destroy 2 11, [])
     ∷ []
 
 abbrev pub closed : World

@@ -4,10 +4,10 @@ use Rattle.std.specs.List.{range_with_len}
 use Rattle.iofd_access_examples.specs.PinScript.{pinned, ready}
 use Rattle.iofd_examples.specs.Words.{QuestionRefusals, Refusals, access_attach, access_detach, access_pin}
 use Rattle.iofd_examples.specs.Words.{access_pin_row, access_read, access_unpin, access_write, area_row, close, destroy}
-use Rattle.iofd_examples.specs.Words.{file}
+use Rattle.iofd_examples.specs.Words.{file, map_in, page_row}
 use Rattle.iofd_words.specs.World.{World}
 use Rattle.iofd_words.specs.declared.refusal.Cause.TheVariants as cause
-use Rattle.iofd_words.specs.declared.rows.Phase.TheVariants.{Leaving}
+use Rattle.iofd_words.specs.declared.rows.Phase.TheVariants.{Leaving, Live}
 
 -- ---- pins
 
@@ -62,12 +62,24 @@ pins_in_pinned =
     ∷ (access_pin 1 4 0x4000 0x1000 false, cause.Absent ∷ cause.Account ∷ [])
     ∷ []
 
+-- where it has given the first of them up: a page that is pinned already isn't needed again, to whichever area it is
+abbrev pub given_up : World
+given_up = record pinned { user_pages = page_row 1 0x11 1 ∷ page_row 1 0x12 2 ∷ [] }
+
+abbrev pub pins_in_given_up : Refusals
+pins_in_given_up =
+    (access_pin 1 3 0x1000 0x1000 false, [])
+    ∷ (access_pin 1 3 0x3000 0x2000 true, [])
+    ∷ (access_pin 1 3 0x1000 0x4000 true, [])
+    ∷ []
+
 -- where areas are leaving
 abbrev pub with_leaving : World
 with_leaving =
     record ready {
       areas =
-          area_row 1 1 0x1000 0x2fff 14 3 (Leaving [] 1) ∷ area_row 1 2 0x2000 0x2fff 16 1 (Leaving [] 1)
+          area_row 1 1 0x1000 0x2fff 14 3 (Leaving [] 1)
+          ∷ area_row 1 2 0x1000 0x1fff 17 3 Live ∷ area_row 1 2 0x2000 0x2fff 16 1 (Leaving [] 1)
           ∷ [];
     }
 
@@ -78,7 +90,30 @@ pins_in_leaving =
     ∷ (access_pin 1 3 0x1000 0x4000 false, cause.Span ∷ cause.Leaving ∷ [])
     ∷ (access_pin 1 4 0x2000 0x1000 false, cause.Leaving ∷ [])
     ∷ (access_pin 1 4 0x2000 0x1000 true, cause.Leaving ∷ cause.Rights ∷ [])
+    -- a live area before a leaving one: alone, and both
+    ∷ (access_pin 1 4 0x1000 0x1000 true, [])
+    ∷ (access_pin 1 4 0x1000 0x2000 false, cause.Leaving ∷ [])
     ∷ []
+
+-- in `leaving`: pages of areas that are leaving are read and written through a pin as before, and let go; another
+-- access object may be attached there, and a MAP may lie beside them
+abbrev pub events_in_leaving : Refusals
+events_in_leaving =
+    (access_write 1 3 0x1000 (1 ∷ []), [])
+    ∷ (access_write 1 3 0x4fff (1 ∷ []), [])
+    ∷ (access_unpin 1 3 0x1000 0x4000 true, [])
+    ∷ (access_attach 1 5 1, [])
+    ∷ (access_detach 1 3, cause.InUse ∷ [])
+    ∷ (map_in 1 7 1 0x10000 0x1000 0x5000, [])
+    ∷ []
+
+-- in `others_leaving`: who holds no pin may be detached
+abbrev pub detachments_in_leaving : Refusals
+detachments_in_leaving =
+    (access_detach 1 5, []) ∷ (access_detach 2 3, []) ∷ (access_detach 1 3, cause.InUse ∷ []) ∷ []
+
+abbrev pub reads_in_leaving : QuestionRefusals
+reads_in_leaving = (access_read 1 3 0x1000 1, []) ∷ (access_read 1 3 0x4fff 1, []) ∷ []
 
 -- so many pins of file 1's second access object
 abbrev pub with_pins : ℕ → World

@@ -124,11 +124,14 @@ refusals_at_the_top =
     ∷ (unmap_in 1 5 0 0xffff_ffff_ffff_ffff, [])
     ∷ []
 
--- ---- no usable ranges: two that adjoin, and one beside a span whose first is above its last, though both have the
--- right numbers; and a number too few
+-- ---- no usable ranges: two that adjoin or overlap, and one beside a span whose first is above its last, though all
+-- have the right numbers; and a number too few
 
 abbrev pub adjoining : List Bounds
 adjoining = from_to 0 0xfff ∷ from_to 0x1000 0xffff_ffff_ffff_ffff ∷ []
+
+abbrev pub overlapping : List Bounds
+overlapping = from_to 0 0x1fff ∷ from_to 0x1000 0xffff_ffff_ffff_ffff ∷ []
 
 abbrev pub turned : List Bounds
 turned =

@@ -24,6 +24,7 @@ pub use ranges::{
     least_address_lies_behind_what_is_kept, usable_ranges_are_merged,
 };
 pub use tables::{
-    table_script_is_a_run, table_script_leaves_its_worlds, tables_move_with_their_pages,
+    table_script_is_a_run, table_script_leaves_its_worlds, tables_end_at_their_borders,
+    tables_move_with_their_pages,
 };
 pub use unmaps::{other_answers_are_unlawful, unmaps_are_counted, unmaps_of_two_areas_are_counted};

@@ -79,6 +79,7 @@ pub fn pins_are_refused()
     ensures first_ready { AreRefusedIn script.ready records.pins_in_ready }
     ensures all_pinned { ApplyIn script.pinned records.pins_in_pinned }
     ensures first_pinned { AreRefusedIn script.pinned records.pins_in_pinned }
+    ensures all_given_up { ApplyIn records.given_up records.pins_in_given_up }
     ensures all_leaving { ApplyIn records.with_leaving records.pins_in_leaving }
     ensures first_leaving { AreRefusedIn records.with_leaving records.pins_in_leaving }
     ensures all_unpins { ApplyIn script.pinned records.unpins }
@@ -95,7 +96,7 @@ pub fn pins_have_a_limit()
     ensures below { ApplyIn (records.with_pins 65534) records.pins_below_limit }
 {}
 
-/// Accesses through pins are refused by each row, for reads and writes alike.
+/// Accesses through pins are refused by each row, for reads and writes alike; not where their areas are leaving.
 pub fn held_accesses_are_refused()
     ensures all_writes { ApplyIn script.pinned records.writes_in_pinned }
     ensures first_writes { AreRefusedIn script.pinned records.writes_in_pinned }
@@ -103,4 +104,7 @@ pub fn held_accesses_are_refused()
     ensures first_for_reads { AreRefusedIn script.one_left records.writes_in_one_left }
     ensures reads { ApplyToQuestionsIn script.pinned records.reads_in_pinned }
     ensures reads_left { ApplyToQuestionsIn script.one_left records.reads_in_one_left }
+    ensures all_leaving { ApplyIn script.leaving records.events_in_leaving }
+    ensures all_others_leaving { ApplyIn script.others_leaving records.detachments_in_leaving }
+    ensures reads_leaving { ApplyToQuestionsIn script.leaving records.reads_in_leaving }
 {}

@@ -38,9 +38,10 @@ pub fn every_address_is_named()
     ensures refusals { ApplyIn records.at_the_top records.refusals_at_the_top }
 {}
 
-/// Ranges that adjoin, that are turned or that lack a number aren't the usable ones.
+/// Ranges that adjoin or overlap, that are turned or that lack a number aren't the usable ones.
 pub fn usable_ranges_are_merged()
     ensures adjoining { AreUsableRanges (view shared) (file 1) (id 5) records.adjoining → ⊥ }
+    ensures overlapping { AreUsableRanges (view shared) (file 1) (id 5) records.overlapping → ⊥ }
     ensures turned { AreUsableRanges (view shared) (file 1) (id 5) records.turned → ⊥ }
     ensures few { AreUsableRanges (view shared) (file 1) (id 5) records.one_too_few → ⊥ }
 {}

@@ -31,5 +31,20 @@ pub fn tables_move_with_their_pages()
     ensures map_gives { NoneIsLawful 8 script.two_tables script.mapping_gives }
     ensures given { AreLawful 11 script.paid script.given_back }
     ensures not_given { NoneIsLawful 11 script.paid script.not_given_back }
+    ensures exchanged { NoneIsLawful 11 script.paid script.given_and_taken }
+    ensures rising { NoneIsLawful 11 script.paid script.not_rising }
+    ensures leaving { NoneIsLawful 11 script.both_leave script.given_of_leaving }
+    ensures idle { NoneIsLawful 12 script.unmapped script.gives_idle }
+    ensures idle_stay { AreLawful 12 script.unmapped script.gives_none }
+    ensures apart { NoneIsLawful 11 script.apart script.given_of_others }
     ensures root_stays { NoneIsLawful 15 script.parted script.closing_keeps }
+{}
+
+/// A table has 512 places, from its first address on: of two areas over the border between two tables each keeps its
+/// own, and both keep the one above.
+pub fn tables_end_at_their_borders()
+    ensures first { AreLawful 11 script.first_paid script.first_gives }
+    ensures first_alone { NoneIsLawful 11 script.first_paid script.first_gives_others }
+    ensures second { AreLawful 11 script.second_paid script.second_gives }
+    ensures second_alone { NoneIsLawful 11 script.second_paid script.second_gives_others }
 {}

@@ -1,2 +1,3 @@
 pub mod Worked
 pub mod Broken
+pub mod Kept

@@ -24,6 +24,11 @@ unfolding access_attach_checks access_detach_checks access_pin_checks access_unp
     close_checks destroy_checks number_at
 returns-clause-first_pinned c = refl
 
+pub returns-clause-all_given_up : goal.returns-clause-all_given_up
+unfolding access_attach_checks access_detach_checks access_pin_checks access_unpin_checks access_write_checks
+    close_checks destroy_checks number_at
+returns-clause-all_given_up c = refl
+
 pub returns-clause-all_leaving : goal.returns-clause-all_leaving
 unfolding access_attach_checks access_detach_checks access_pin_checks access_unpin_checks access_write_checks
     close_checks destroy_checks number_at

@@ -5,6 +5,9 @@ use Rattle.iofd_access_examples.proofs.ranges.usable_ranges_are_merged.Goals as 
 pub returns-clause-adjoining : goal.returns-clause-adjoining
 returns-clause-adjoining c = λ h. absurd (omega (arith, h.merged.2.0))
 
+pub returns-clause-overlapping : goal.returns-clause-overlapping
+returns-clause-overlapping c = λ h. absurd (omega (arith, h.merged.2.0))
+
 pub returns-clause-turned : goal.returns-clause-turned
 returns-clause-turned c = λ h. absurd (omega (arith, h.merged.2.1))
 
