@@ -43,7 +43,7 @@ returns-clause-owed c = λ e has. subst (λ (e : Entry). IsBacked both_owe (reco
 pub returns-clause-anew : goal.returns-clause-anew
 returns-clause-anew c = λ fill.
     let same = contained_in_one (area_row 1 1 0x1000 0x1fff 2 3 (Leaving (1 ∷ 2 ∷ []) 1)) fill.backed.area
-        fill.backed.there in
+    fill.backed.there in
     let leaving = ap (λ (area : Area). area.phase) same in
     let live = fill.live in
     cc

@@ -27,16 +27,16 @@ returns-clause-pages c = λ apart. never apart.pages
 pub returns-clause-page_and_pin : goal.returns-clause-page_and_pin
 returns-clause-page_and_pin c = λ one.
     let same = one 0 (user 2) (user 1)
-        (inl (record { page = page_row 2 0x10 0; there = (0, omega arith, refl); of = refl; frame_is = refl }))
-        (inr (record {
-          pin = pin_row 2 0 0;
-          there = (0, omega arith, refl);
-          m = memory_row 2 1 0x10000 1 true;
-          among = (0, omega arith, refl);
-          number = refl;
-          of = refl;
-          frame_is = refl;
-        })) in
+    (inl (record { page = page_row 2 0x10 0; there = (0, omega arith, refl); of = refl; frame_is = refl }))
+    (inr (record {
+      pin = pin_row 2 0 0;
+      there = (0, omega arith, refl);
+      m = memory_row 2 1 0x10000 1 true;
+      among = (0, omega arith, refl);
+      number = refl;
+      of = refl;
+      frame_is = refl;
+    })) in
     absurd (omega (arith, same))
 
 pub returns-clause-pin_and_table : goal.returns-clause-pin_and_table
