@@ -1,7 +1,8 @@
 /* How many questions and calls are made in a second, by one thread, two and four: by callers, each thread with a handle
    of its own; and beside that with one caller's handle in turn, behind a mutex, as one lock round the whole server would
    have it. A question reads 64 bytes of the user's memory; a call writes them, so that it takes all lanes and makes a
-   record. One that can't be served now is made again. `bench/callers [seconds]` builds and runs it. */
+   record. One that can't be served now is made again. Then three who ask beside one who calls, and a call by how many
+   lanes there are. `bench/callers [seconds]` builds and runs it. */
 #include <pthread.h>
 #include <stdio.h>
 #include <stdlib.h>
@@ -10,7 +11,7 @@
 
 #include "defnulk_iommufd.h"
 
-enum { CALLERS = 4, PAGE = 4096, LENGTH = 64, OF = 20 };
+enum { CALLERS = 4, PAGE = 4096, LENGTH = 64, OF = 20, ALONE = -1 };
 
 /* The user's first page. */
 static const uint64_t va = 0x100000;
@@ -26,6 +27,7 @@ struct caller {
 static struct caller callers[CALLERS];
 static pthread_mutex_t turn = PTHREAD_MUTEX_INITIALIZER;
 static int stop, calls, is_shared;
+static uint16_t lanes = CALLERS;
 
 static double now(void) {
     struct timespec time;
@@ -33,10 +35,14 @@ static double now(void) {
     return (double)time.tv_sec + (double)time.tv_nsec / 1e9;
 }
 
-/* A question, or where its number says so a call. */
+/* Whether it is a call: so many of each twenty are, or all of the first caller alone. */
+static int is_call(const struct caller *caller) {
+    return calls == ALONE ? caller == callers : caller->done % OF < (uint64_t)calls;
+}
+
 static int32_t ask_or_call(struct caller *caller, unsigned char *bytes) {
     struct defnulk_outcome out;
-    if (caller->done % OF < (uint64_t)calls)
+    if (is_call(caller))
         return defnulk_user_write(caller->used, 1, caller->page, bytes, LENGTH, &out);
     return defnulk_user_read(caller->used, 1, caller->page, bytes, LENGTH, &out);
 }
@@ -64,8 +70,8 @@ static int opened(void) {
     const uint64_t users[] = { CALLERS };
     const uint16_t files[] = { 1 };
     const struct defnulk_config config = {
-        .users = users, .user_count = 1, .files = files, .file_count = 1, .pool = CALLERS, .passes = CALLERS,
-        .lanes = CALLERS, .cache = 1
+        .users = users, .user_count = 1, .files = files, .file_count = 1, .pool = CALLERS, .passes = 64,
+        .lanes = lanes, .cache = 1
     };
     struct defnulk_outcome out;
     memset(callers, 0, sizeof callers);
@@ -111,6 +117,35 @@ static double measure(int threads, double seconds) {
     return closed() != 0 ? -1 : rate;
 }
 
+/* How many questions three are answered in a second beside one who calls or does nothing, and how many calls it makes. */
+static int beside_a_caller(double seconds) {
+    calls = ALONE;
+    is_shared = 0;
+    double all = measure(CALLERS, seconds), made = (double)callers[0].done / seconds;
+    calls = 0;
+    double alone = measure(CALLERS, seconds);
+    if (all < 0 || alone < 0)
+        return 1;
+    printf("\nThree who ask: %.2f millions a second beside one who asks, too, and %.2f beside one who calls, %.2f.\n",
+           alone * 3 / 4 / 1e6, (all - made) / 1e6, made / 1e6);
+    return 0;
+}
+
+/* Nanoseconds of a call of one thread, by how many lanes there are. */
+static int by_lanes(double seconds) {
+    static const uint16_t many[] = { 1, 2, 4, 16, 64 };
+    calls = OF;
+    puts("\n| lanes | a call, ns |\n|---:|---:|");
+    for (size_t i = 0; i < sizeof many / sizeof *many; i++) {
+        lanes = many[i];
+        double rate = measure(1, seconds);
+        if (rate < 0)
+            return 1;
+        printf("| %u | %.0f |\n", (unsigned)lanes, 1e9 / rate);
+    }
+    return 0;
+}
+
 int main(int argc, char **argv) {
     static const struct {
         const char *name;
@@ -134,5 +169,5 @@ int main(int argc, char **argv) {
             return 1;
         printf("| %s | %.2f | %.2f | %.2f |\n", rows[i].name, one / 1e6, two / 1e6, four / 1e6);
     }
-    return 0;
+    return beside_a_caller(seconds) != 0 || by_lanes(seconds) != 0;
 }
