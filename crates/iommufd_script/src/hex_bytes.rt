@@ -40,7 +40,8 @@ fn are_lower_digits(text: &[u8]) -> bool
 {
     let mut all = true;
     for c in text {
-        all &= matches!(*c, b'0'..=b'9' | b'a'..=b'f');
+        let c = *c;
+        all &= ((b'0' <= c) & (c <= b'9')) | ((b'a' <= c) & (c <= b'f'));
     }
     all
 }
