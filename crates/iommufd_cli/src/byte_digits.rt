@@ -1,10 +1,12 @@
 //! Digits of bytes in hex: two for each, the high four bits first.
 
 ghost use Rattle.std.specs.Prelude.{◌≡◌, ◌≤◌, ◌<◌, ◌+◌, ◌*◌, ◌++◌};
-ghost use Rattle.std.specs.Prelude.{length, map, slice_index};
+ghost use Rattle.std.specs.Prelude.{IfOk, length, map, slice_index};
 ghost use Rattle.std.specs.Simd.Lanes.{Each1, chunk, put_chunk};
 ghost use Rattle.hex.specs.Hex.{encode_lower, lower_digits};
 
+use iofd_words::NoMemory;
+use std::alloc::Allocator;
 use std::simd::prelude::*;
 
 // The digits of each byte, from 0 on. A look here takes fewer instructions than one for each digit.
@@ -97,4 +99,17 @@ pub fn put_hex_bytes(bytes: &[u8], buffer: &mut [u8])
     } else {
         put_many(bytes, buffer);
     }
+}
+
+/// The digits of bytes, which may be many: so they take memory, and fail only where that does.
+pub fn hex_digits<A: Allocator>(alloc: A, bytes: &[u8]) -> Result<Vec<u8, A>, NoMemory>
+    ensures { IfOk result (λ digits. digits.items ≡ encode_lower bytes.now) }
+{
+    let Some(count) = bytes.len().checked_mul(2) else {
+        return Err(NoMemory);
+    };
+    let mut digits = Vec::new(alloc);
+    digits.resize(count, 0)?;
+    put_hex_bytes(bytes, &mut digits);
+    Ok(digits)
 }

@@ -3,6 +3,7 @@
 ghost use Rattle.std.specs.Prelude.{◌≡◌, IfOk};
 ghost use Rattle.iommufd_cli.specs.Journal.{IsJournalLine};
 
+use crate::byte_digits::hex_digits;
 use iofd_words::{Config, NoMemory, Record};
 use journal_audit_writing::journal;
 use std::alloc::Allocator;
@@ -19,9 +20,9 @@ pub fn journal_line<A: Allocator + Copy>(
     let Ok(bytes) = journal(alloc, config, records) else {
         return Err(NoMemory);
     };
-    let digits = hex::encode(alloc, &bytes)?;
+    let digits = hex_digits(alloc, &bytes)?;
     let mut text = Vec::from_slice(alloc, b"journal ")?;
-    text.extend_from_slice(digits.as_bytes())?;
+    text.extend_from_slice(&digits)?;
     text.extend_from_slice(b"\n")?;
     Ok(text)
 }

@@ -8,6 +8,7 @@ ghost use Rattle.iommufd_cli.specs.Replies.{bad_line_text, fault_text, reply_tex
 ghost use Rattle.iommufd_cli.specs.Replies.{answer_text, notice_text, notices_text, places_text, ranges_text};
 ghost use Rattle.iommufd_cli.specs.Replies.{report_text};
 
+use crate::byte_digits::hex_digits;
 use crate::line::Line;
 use crate::names::{name_of_cause, name_of_kind};
 use ioctl_codec::{Command, RangesRequest, encode_ranges, encode_reply_to};
@@ -226,9 +227,9 @@ pub fn ranges_line<A: Allocator + Copy>(
     ensures { IfOk result (λ text. text.items ≡ line (ranges_text request ranges.now)) }
 {
     let bytes = encode_ranges(alloc, request, ranges)?;
-    let digits = hex::encode(alloc, &bytes)?;
+    let digits = hex_digits(alloc, &bytes)?;
     let mut text = Vec::from_slice(alloc, places_words(request, ranges.len()).as_slice())?;
-    text.extend_from_slice(digits.as_bytes())?;
+    text.extend_from_slice(&digits)?;
     text.extend_from_slice(b"\n")?;
     Ok(text)
 }
