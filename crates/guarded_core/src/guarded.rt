@@ -4,7 +4,7 @@
 ghost use Rattle.std.specs.Prelude.{◌≡◌, IfErr, IfOk};
 ghost use Rattle.std.specs.Fn.{FnReturnsAt};
 ghost use Rattle.lane_lock.specs.History.{StartsWith};
-ghost use Rattle.lane_lock.specs.Outcomes.{MetNone, OnlySees, RefusesRead};
+ghost use Rattle.lane_lock.specs.Outcomes.{HadAll, HadLane, MetNone, OnlySees, RefusesRead};
 ghost use Rattle.lane_lock.specs.Passes.{Owns, SamePass, lane_of, lanes_of, opening_of, view_of};
 ghost use Rattle.lane_lock.specs.Views.{IsBlank};
 ghost use Rattle.guarded_core.specs.Guarded.{Committed, RefusesCommit, Shown};
@@ -30,6 +30,7 @@ pub fn show<R: Wait, K: Kept, Q, T, F: Fn(&K, Q) -> T>(
     ensures shown { (value : K) × Shown lock.now pass.new value
         × ((x : _) × (x.now ≡ value) × F.post ask x question result) }
     ensures home { IsBlank (view_of pass.new) }
+    ensures had { HadLane (view_of pass.old) (view_of pass.new) }
 {
     let guard = lock.read(rt, pass);
     let answer = ask(guard.get(), question);
@@ -53,6 +54,7 @@ pub fn try_show<K: Kept, Q: Copy, T, F: Fn(&K, Q) -> T>(
         (value : K) × Shown lock.now pass.new value
         × ((x : _) × (x.now ≡ value) × F.post ask x question answer)) }
     ensures met { IfOk result (λ _. MetNone (view_of pass.old) (view_of pass.new)) }
+    ensures had { IfOk result (λ _. HadLane (view_of pass.old) (view_of pass.new)) }
     ensures refused { IfErr result (RefusesRead (view_of pass.old) (view_of pass.new) (lane_of pass.old)) }
     ensures home { IsBlank (view_of pass.old) → IsBlank (view_of pass.new) }
 {
@@ -77,6 +79,7 @@ pub fn try_show_later<K: Kept, Q: Copy, T, F: Fn(&K, Q) -> T>(
         (value : K) × Shown lock.now pass.new value
         × ((x : _) × (x.now ≡ value) × F.post ask x question answer)) }
     ensures met { IfOk result (λ _. MetNone (view_of pass.old) (view_of pass.new)) }
+    ensures had { IfOk result (λ _. HadLane (view_of pass.old) (view_of pass.new)) }
     ensures refused { IfErr result (RefusesRead (view_of pass.old) (view_of pass.new) (lane_of pass.old)) }
     ensures home { IsBlank (view_of pass.old) → IsBlank (view_of pass.new) }
 {
@@ -104,6 +107,7 @@ pub fn commit<R: Wait, K: Kept>(
     ensures committed { IfOk result (λ stamp. Committed lock.now pass.old act.now stamp pass.new) }
     ensures refused { IfErr result (λ _. OnlySees (view_of pass.old) (view_of pass.new)) }
     ensures home { IsBlank (view_of pass.new) }
+    ensures had { HadAll (view_of pass.old) (view_of pass.new) }
 {
     lock.write(rt, pass).commit(act)
 }
@@ -120,6 +124,7 @@ pub fn try_commit<K: Kept>(
     ensures owned { Owns lock.now pass.new }
     ensures committed { IfOk result (λ stamp. Committed lock.now pass.old act.now stamp pass.new) }
     ensures met { IfOk result (λ _. MetNone (view_of pass.old) (view_of pass.new)) }
+    ensures had { IfOk result (λ _. HadAll (view_of pass.old) (view_of pass.new)) }
     ensures refused { IfErr result (RefusesCommit (lanes_of lock.now) (view_of pass.old) (view_of pass.new)) }
     ensures home { IsBlank (view_of pass.old) → IsBlank (view_of pass.new) }
 {
@@ -151,6 +156,7 @@ where
     ensures committed { IfOk result (λ r. (act : K.Act) × (c : Committed lock.now pass.old act r.1 pass.new)
         × FnReturnsAt F.Fn make.now c.before (r.0, act)) }
     ensures met { IfOk result (λ _. MetNone (view_of pass.old) (view_of pass.new)) }
+    ensures had { IfOk result (λ _. HadAll (view_of pass.old) (view_of pass.new)) }
     ensures refused { IfErr result (RefusesCommit (lanes_of lock.now) (view_of pass.old) (view_of pass.new)) }
     ensures home { IsBlank (view_of pass.old) → IsBlank (view_of pass.new) }
 {

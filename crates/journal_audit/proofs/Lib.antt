@@ -1,4 +1,5 @@
 mod Again
+mod Begun
 mod Judged
 mod Reached
 mod Verdicts

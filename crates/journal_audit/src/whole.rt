@@ -1,11 +1,11 @@
 //! A whole journal.
 
-ghost use Rattle.std.specs.Prelude.{◌≡◌, ◌≢◌, ◌++◌, List, ℕ, IfOk};
+ghost use Rattle.std.specs.Prelude.{◌≡◌, ◌≢◌, ◌++◌, List, ℕ, IfOk, OnErr};
 ghost use Rattle.iofd_words.specs.World.{opening};
 ghost use Rattle.journal_audit.specs.Verdict.{IsVerdict};
 ghost use Rattle.journal_audit.specs.declared.verdict.Verdict.{Verdict};
 ghost use Rattle.journal_audit.specs.declared.verdict.Verdict.TheVariants.{Torn};
-ghost use Rattle.journal_audit_bytes.specs.Head.{SpellsHead};
+ghost use Rattle.journal_audit_bytes.specs.Head.{BeginWithUsers, SpellsHead};
 ghost use Rattle.journal_audit_bytes.specs.Version.{mark};
 ghost use Rattle.journal_audit_bytes.specs.declared.version.Version.TheVariants.{One, Two};
 
@@ -18,10 +18,13 @@ use std::alloc::Allocator;
 
 /// What these bytes are, by the definitions alone: a journal of either version whose records are a run, and how many;
 /// or which record is the first that doesn't go on with the run; or where no record, or no head, begins. Its only error
-/// is want of memory. It takes memory by what the records hold and leave, and never by a number that stands in them.
+/// is want of memory, of bytes that begin with a mark, the size of a pool and the limits of users alone. It takes memory
+/// by what the records hold and leave, and never by a number that stands in them.
 pub fn audit<A: Allocator + Copy>(alloc: A, bytes: &[u8]) -> Result<Verdict, NoMemory>
     ensures found { IfOk result (λ verdict. IsVerdict A bytes.now verdict) }
     ensures only { (v : Verdict) → IsVerdict A bytes.now v → IfOk result (λ verdict. verdict ≡ v) }
+    // Bytes that don't even begin so are judged without memory.
+    ensures memory { OnErr result (BeginWithUsers bytes.now) }
     // Bytes of version 1 that aren't torn are the same with version 2's mark in place of their own.
     ensures versions { (rest : List ℕ) (v : Verdict) → ((offset : ℕ) → v ≢ Torn offset) →
         IsVerdict A (mark One ++ rest) v → IsVerdict A (mark Two ++ rest) v }

@@ -6,9 +6,7 @@ use Rattle.std.proofs.lemmas.Bool.{le-leb, le-ltb, leb-true}
 use Rattle.iofd_words.specs.Settings.{is_between}
 use Rattle.std.specs.Int.{byte_len, w8}
 use Rattle.journal_audit_bytes.specs.Format.{burst}
-use Rattle.journal_audit_bytes.specs.declared.spelled.ReadError.{ReadError}
-use Rattle.journal_audit_bytes.specs.declared.spelled.ReadError.TheVariants.{Memory, Torn}
-use Rattle.journal_audit_bytes.specs.Reading.{◌>>=◌, Fails, elements_at, fields_at, list_at, number_at, singles}
+use Rattle.journal_audit_bytes.specs.Reading.{◌>>=◌, elements_at, fields_at, list_at, number_at, singles}
 use Rattle.journal_audit_bytes.proofs.Elements.{sizes_1, too_few}
 
 one_more : (b : ℕ) (bytes : List ℕ) → number_at w8 (b ∷ bytes) ≡ Some (b, bytes)
@@ -46,14 +44,10 @@ unfolding list_at
 behind bytes n rest is = ap (λ (o : Option (ℕ × List ℕ)). o >>= λ n.
     cond (is_between 1 64 n.0) (elements_at n.0 (w8 ∷ []) n.1) None) is
 
-no_number : (bytes : List ℕ) → number_at w8 bytes ≡ None → list_at burst bytes ≡ None
+pub no_number : (bytes : List ℕ) → number_at w8 bytes ≡ None → list_at burst bytes ≡ None
 unfolding list_at
 no_number bytes is = ap (λ (o : Option (ℕ × List ℕ)). o >>= λ n.
     cond (is_between 1 64 n.0) (elements_at n.0 (w8 ∷ []) n.1) None) is
-
-pub no_number_by : (e : ReadError) (bytes : List ℕ) → Fails e (number_at w8 bytes) → Fails e (list_at burst bytes)
-no_number_by Memory bytes fails = tt
-no_number_by Torn bytes fails = no_number bytes fails
 
 pub cut : (bytes : List ℕ) (n : ℕ) (rest : List ℕ) → number_at w8 bytes ≡ Some (n, rest) → length rest < n
     → list_at burst bytes ≡ None

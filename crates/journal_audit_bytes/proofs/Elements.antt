@@ -1,15 +1,15 @@
 -- Lists of elements: read, written, and read one after the other, as a loop does.
 use Rattle.std.proofs.Common.{◌≡◌, ℕ, zero, suc, ◌+◌, ◌-◌, ◌*◌, ◌/◌, ◌≤◌, ◌<◌, List, [], ◌∷◌, ◌++◌, length, drop, ltb}
 use Rattle.std.proofs.Common.{Option, Result, Ok, Err, Some, None, refl, sym, ap, subst, ◌∙◌, append_assoc}
-use Rattle.std.proofs.Common.{IsErrAnd, append-nil, arith}
-use Rattle.std.proofs.lemmas.Bool.{ltb-false}
+use Rattle.std.proofs.Common.{Bool, IsErrAnd, append-nil, arith, cond}
+use Rattle.std.proofs.lemmas.Bool.{le-ltb, ltb-false}
 use Rattle.std.proofs.lemmas.List.{length-drop}
 use Rattle.std.specs.Int.{Width, w32, w64, byte_len, from_le_bytes}
 use Rattle.std.proofs.Common.{take}
 use Rattle.journal_audit_bytes.specs.Format.{ElementsFit, elements_spelled, spelled}
 use Rattle.journal_audit_bytes.specs.declared.spelled.ReadError.{ReadError}
 use Rattle.journal_audit_bytes.specs.declared.spelled.ReadError.TheVariants.{Memory, Torn}
-use Rattle.journal_audit_bytes.specs.Reading.{◌>>=◌, Fails, Gives, OnMemory, elements_at, fields_at}
+use Rattle.journal_audit_bytes.specs.Reading.{◌>>=◌, Fails, Gives, IfMemory, OnMemory, elements_at, fields_at}
 use Rattle.journal_audit_bytes.specs.Reading.{number_at}
 use Rattle.journal_audit_bytes.proofs.Fields.{AreWide, IsBytes, Takes, Takes-then, bind_some, fields_again}
 use Rattle.journal_audit_bytes.proofs.Fields.{fields_take, guard_none, some_is}
@@ -91,15 +91,47 @@ too_few n ws bytes few = by_case (elements_at n ws bytes) refl
     by_case None is = refl
     by_case (Some x) is = absurd (omega (arith, few, elements_left n ws bytes x is))
 
+-- as many bytes as a number has are one
+pub number_enough : (w : Width) (bytes : List ℕ) → byte_len w ≤ length bytes
+    → (x : ℕ × List ℕ) × (number_at w bytes ≡ Some x) × (length x.1 + byte_len w ≡ length bytes)
+number_enough w bytes long =
+    let x : ℕ × List ℕ = (from_le_bytes w (take (byte_len w) bytes), drop (byte_len w) bytes) in
+    let is : number_at w bytes ≡ Some x =
+    ap (λ (few : Bool). (let o : Option (ℕ × List ℕ) = cond few None (Some x) in o)) (le-ltb _ _ long) in
+    (x, is, number_left w bytes x is)
+
+fields_enough : (ws : List Width) (bytes : List ℕ) → size_of ws ≤ length bytes
+    → (x : List ℕ × List ℕ) × (fields_at ws bytes ≡ Some x)
+fields_enough [] bytes long = (([], bytes), refl)
+fields_enough (w ∷ ws) bytes long =
+    let a = number_enough w bytes (omega (arith, long)) in
+    let b = fields_enough ws a.0.1 (omega (arith, long, a.2)) in (
+      (a.0.0 ∷ b.0.0, b.0.1),
+      ap (λ (o : Option (ℕ × List ℕ)). o >>= λ n. fields_at ws n.1 >>= λ ns. Some (n.0 ∷ ns.0, ns.1)) a.1
+          ∙ ap (λ (o : Option (List ℕ × List ℕ)). o >>= λ ns. Some (a.0.0 ∷ ns.0, ns.1)) b.1,
+    )
+
+pub elements_enough : (n : ℕ) (ws : List Width) (bytes : List ℕ) → sizes n (size_of ws) ≤ length bytes
+    → (x : List (List ℕ) × List ℕ) × (elements_at n ws bytes ≡ Some x) × (length x.0 ≡ n)
+elements_enough zero ws bytes long = (([], bytes), refl, refl)
+elements_enough (suc n) ws bytes long =
+    let a = fields_enough ws bytes (omega (arith, long)) in
+    let b = elements_enough n ws a.0.1 (omega (arith, long, fields_left ws bytes a.0 a.1)) in (
+      (a.0.0 ∷ b.0.0, b.0.1),
+      ap (λ (o : Option (List ℕ × List ℕ)). o >>= λ e. elements_at n ws e.1 >>= λ es. Some (e.0 ∷ es.0, es.1)) a.1
+          ∙ ap (λ (o : Option (List (List ℕ) × List ℕ)). o >>= λ es. Some (a.0.0 ∷ es.0, es.1)) b.1,
+      ap suc b.2,
+    )
+
 pub sizes_1 : (n : ℕ) → sizes n 1 ≡ n
 sizes_1 zero = refl
 sizes_1 (suc n) = omega (arith, sizes_1 n)
 
-sizes_4 : (n : ℕ) → sizes n 4 ≡ 4 * n
+pub sizes_4 : (n : ℕ) → sizes n 4 ≡ 4 * n
 sizes_4 zero = refl
 sizes_4 (suc n) = omega (arith, sizes_4 n)
 
-sizes_16 : (n : ℕ) → sizes n 16 ≡ 16 * n
+pub sizes_16 : (n : ℕ) → sizes n 16 ≡ 16 * n
 sizes_16 zero = refl
 sizes_16 (suc n) = omega (arith, sizes_16 n)
 
@@ -136,7 +168,7 @@ goes_on ws front count i bytes e after total less is before =
     ∙ regroup front e (elements_at (count - (i + 1)) ws after) in
     sym one ∙ before
 
-ends : (ws : List Width) (front : List (List ℕ)) (count i : ℕ) (bytes : List ℕ)
+pub ends : (ws : List Width) (front : List (List ℕ)) (count i : ℕ) (bytes : List ℕ)
     (total : Option (List (List ℕ) × List ℕ)) → i < count → fields_at ws bytes ≡ None
     → with_front front (elements_at (count - i) ws bytes) ≡ total → total ≡ None
 ends ws front count i bytes total less is before =
@@ -146,11 +178,10 @@ ends ws front count i bytes total less is before =
     ∙ ap (λ (o : Option (List ℕ × List ℕ)). with_front front (o >>= λ x. elements_at (count - (i + 1)) ws x.1
     >>= λ es. Some (x.0 ∷ es.0, es.1))) is
 
-pub ends_by : (e : ReadError) (ws : List Width) (front : List (List ℕ)) (count i : ℕ) (bytes : List ℕ)
-    (total : Option (List (List ℕ) × List ℕ)) → i < count → Fails e (fields_at ws bytes)
-    → with_front front (elements_at (count - i) ws bytes) ≡ total → Fails e total
-ends_by Memory ws front count i bytes total less fails before = tt
-ends_by Torn ws front count i bytes total less fails before = ends ws front count i bytes total less fails before
+-- none need no memory
+pub some_elements : (n : ℕ) → (n ≡ 0 → ⊥) → 0 < n
+some_elements zero none = absurd (none refl)
+some_elements (suc n) none = omega arith
 
 pub is_done : (ws : List Width) (front : List (List ℕ)) (count i : ℕ) (bytes : List ℕ)
     (total : Option (List (List ℕ) × List ℕ)) → count ≤ i
@@ -176,3 +207,16 @@ passed_on view (Err y) e read is fails = subst (λ (x : ReadError). Fails x read
 pub memory_ends : {X Y : Type 0} (view : X → Y) (r : Result X ReadError) (read : Option Y)
     → IsErrAnd r (λ y. y ≡ Memory) → Gives view r read
 memory_ends view r read is = passed_on view r Memory read is tt
+
+-- an error of this kind is handed on, and so is what holds where memory was refused
+pub memory_passed : {X : Type 0} {P Q : Type 0} (r : Result X ReadError) (e : ReadError)
+    → IsErrAnd r (λ y. y ≡ e) → IfMemory e P → (P → Q) → OnMemory r Q
+memory_passed (Ok x) e is holds then = tt
+memory_passed (Err Torn) e is holds then = tt
+memory_passed {X} {P} {Q} (Err Memory) e is holds then =
+    then (subst (λ (x : ReadError). IfMemory x P) {x = e} {y = Memory} (sym is) holds)
+
+pub memory_more : {X : Type 0} {P Q : Type 0} (r : Result X ReadError) → OnMemory r P → (P → Q) → OnMemory r Q
+memory_more (Ok x) holds then = tt
+memory_more (Err Torn) holds then = tt
+memory_more (Err Memory) holds then = then holds

@@ -39,7 +39,7 @@ marked version bytes fits is =
 abbrev marked_by : List ℕ → Version → Version × List ℕ
 marked_by bytes version = (version, behind_mark version bytes)
 
-version_takes : (bytes : List ℕ) (x : Version × List ℕ) → IsBytes bytes → version_at bytes ≡ Some x
+pub version_takes : (bytes : List ℕ) (x : Version × List ℕ) → IsBytes bytes → version_at bytes ≡ Some x
     → Takes bytes (mark x.0) x.1
 unfolding version_at
 version_takes bytes x fits is = by_marks (is_marked One bytes) (is_marked Two bytes) refl refl is
@@ -64,7 +64,7 @@ none_is : {X : Type 0} (o : Option X) → is_none o ≡ true → o ≡ None
 none_is None is = refl
 none_is (Some x) is = absurd cc
 
-users_read : Reads (counted_at limit_at) (λ xs. counted limit_spelled xs) (λ xs. CountedFit LimitFits xs)
+pub users_read : Reads (counted_at limit_at) (λ xs. counted limit_spelled xs) (λ xs. CountedFit LimitFits xs)
 users_read = counted_reads limit_at limit_spelled LimitFits limit_reads
 
 files_read : Reads (counted_at user_at) (λ xs. counted user_spelled xs) (λ xs. CountedFit UserFits xs)
@@ -255,17 +255,15 @@ not_opened_if version s rest e is = by_case (first_outside s) is
 
 -- ---- a head that ends early
 
-pub ends_at_version : (e : ReadError) (bytes : List ℕ) → Fails e (version_at bytes) → Fails e (head_at bytes)
+pub ends_at_version : (bytes : List ℕ) → version_at bytes ≡ None → head_at bytes ≡ None
 unfolding head_at
-ends_at_version Memory bytes h = tt
-ends_at_version Torn bytes h = rw h refl
+ends_at_version bytes h = rw h refl
 
-pub ends_at_pool : (e : ReadError) (bytes : List ℕ) {version : Version} {marked : List ℕ}
+pub ends_at_pool : (bytes : List ℕ) {version : Version} {marked : List ℕ}
     → version_at bytes ≡ Some (version, marked)
-    → Fails e (number_at w32 marked) → Fails e (head_at bytes)
+    → number_at w32 marked ≡ None → head_at bytes ≡ None
 unfolding head_at
-ends_at_pool Memory bytes a h = tt
-ends_at_pool Torn bytes a h = rw (a, h) refl
+ends_at_pool bytes a h = rw (a, h) refl
 
 pub ends_at_users : (e : ReadError) (bytes : List ℕ) {version : Version} {n : ℕ} {marked pool : List ℕ}
     → version_at bytes ≡ Some (version, marked) → number_at w32 marked ≡ Some (n, pool)
@@ -291,12 +289,11 @@ unfolding head_at
 ends_at_devices Memory bytes a b c d h = tt
 ends_at_devices Torn bytes a b c d h = rw (a, b, c, d, h) refl
 
-pub ends_at_passes : (e : ReadError) (bytes : List ℕ) {version : Version} {n : ℕ} {us : List ℕ} {fs : List UserNo}
+pub ends_at_passes : (bytes : List ℕ) {version : Version} {n : ℕ} {us : List ℕ} {fs : List UserNo}
     {ds : List DeviceSettings} {marked pool users files devices : List ℕ}
     → version_at bytes ≡ Some (version, marked) → number_at w32 marked ≡ Some (n, pool)
     → counted_at limit_at pool ≡ Some (us, users) → counted_at user_at users ≡ Some (fs, files)
-    → counted_at (device_at version) files ≡ Some (ds, devices) → Fails e (number_at w16 devices)
-    → Fails e (head_at bytes)
+    → counted_at (device_at version) files ≡ Some (ds, devices) → number_at w16 devices ≡ None
+    → head_at bytes ≡ None
 unfolding head_at
-ends_at_passes Memory bytes a b c d f h = tt
-ends_at_passes Torn bytes a b c d f h = rw (a, b, c, d, f, h) refl
+ends_at_passes bytes a b c d f h = rw (a, b, c, d, f, h) refl

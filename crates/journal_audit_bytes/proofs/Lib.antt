@@ -1,3 +1,4 @@
+pub mod Asked
 pub mod Bursts
 pub mod Elements
 pub mod Fields

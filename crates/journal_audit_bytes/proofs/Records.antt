@@ -27,23 +27,23 @@ guard_else false o y is = absurd cc
 
 -- ---- rows have the format's widths
 
-record IsListWide (l : Listed) : Type 0 where
-  count : IsWide l.count
-  element : AreWide l.element
+pub record IsListWide (l : Listed) : Type 0 where
+  pub count : IsWide l.count
+  pub element : AreWide l.element
 
-abbrev TailWide : Option Listed → Type 0
+abbrev pub TailWide : Option Listed → Type 0
 TailWide None = Unit {0}
 TailWide (Some l) = IsListWide l
 
-record RowWide (row : Row) : Type 0 where
-  numbers : AreWide row.numbers
-  list : TailWide row.list
+pub record RowWide (row : Row) : Type 0 where
+  pub numbers : AreWide row.numbers
+  pub list : TailWide row.list
 
-abbrev AllWide : List Row → Type 0
+abbrev pub AllWide : List Row → Type 0
 AllWide [] = Unit {0}
 AllWide (row ∷ rows) = RowWide row × AllWide rows
 
-frames_wide : IsListWide frames
+pub frames_wide : IsListWide frames
 frames_wide = record { count = wide16; element = (wide32, tt) }
 
 found_row : (rows : List Row) (tag : ℕ) (row : Row) → AllWide rows → row_of rows tag ≡ Some row
@@ -211,17 +211,17 @@ wide_too : (rows more : List Row) → AllWide rows → AllWide more → AllWide 
 wide_too [] more wide also = also
 wide_too (row ∷ rows) more wide also = (wide.0, wide_too rows more wide.1 also)
 
-events_of_wide : (version : Version) → AllWide (events_of version)
+pub events_of_wide : (version : Version) → AllWide (events_of version)
 events_of_wide One = events_wide
 events_of_wide Two = wide_too event_rows dirty_event_rows events_wide dirty_events_wide
 
-replies_of_wide : (version : Version) → AllWide (replies_of version)
+pub replies_of_wide : (version : Version) → AllWide (replies_of version)
 replies_of_wide One = replies_wide
 replies_of_wide Two = wide_too reply_rows dirty_reply_rows replies_wide dirty_replies_wide
 
 -- ---- lists behind their number
 
-list_takes : (l : Listed) → IsListWide l → (bytes : List ℕ) (x : List (List ℕ) × List ℕ) → IsBytes bytes
+pub list_takes : (l : Listed) → IsListWide l → (bytes : List ℕ) (x : List (List ℕ) × List ℕ) → IsBytes bytes
     → list_at l bytes ≡ Some x → Takes bytes (list_spelled l x.0) x.1 × ListFits l x.0
 unfolding list_at
 list_takes l wide bytes x fits is =
@@ -264,13 +264,13 @@ tail_again (Some l) wide es rest fits = list_again l wide es rest fits
 
 -- ---- a tag and its fields
 
-record IsTagged (rows : List Row) (t : Tagged) (bytes rest : List ℕ) : Type 0 where
-  text : List ℕ
-  spells : SpellsTagged rows t text
-  takes : Takes bytes text rest
+pub record IsTagged (rows : List Row) (t : Tagged) (bytes rest : List ℕ) : Type 0 where
+  pub text : List ℕ
+  pub spells : SpellsTagged rows t text
+  pub takes : Takes bytes text rest
 
 module _ (rows : List Row) (wide : AllWide rows) where
-  tagged_takes : (bytes : List ℕ) (x : Tagged × List ℕ) → IsBytes bytes → tagged_at rows bytes ≡ Some x
+  pub tagged_takes : (bytes : List ℕ) (x : Tagged × List ℕ) → IsBytes bytes → tagged_at rows bytes ≡ Some x
       → IsTagged rows x.0 bytes x.1
   unfolding tagged_at fields_of_tag fields_of_row
   tagged_takes bytes x fits is =

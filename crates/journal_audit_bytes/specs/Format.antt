@@ -1,8 +1,8 @@
 -- The bytes of a record: its pass; the tag of its event, and that event's fields; the tag of its reply, and that
 -- reply's fields; the table frames taken, and those given back. All numbers are little-endian. Which tags there are is
 -- the version's.
-use Rattle.std.specs.Prelude.{◌≡◌, ℕ, ◌^◌, ◌*◌, ◌<◌, nat_lt, Bool, true, ◌==◌, ◌&&◌, ◌||◌, Option, Some, None, List}
-use Rattle.std.specs.Prelude.{[]}
+use Rattle.std.specs.Prelude.{◌≡◌, ◌≢◌, ◌⊎◌, ℕ, ◌^◌, ◌*◌, ◌<◌, nat_lt, Bool, true, ◌==◌, ◌&&◌, ◌||◌, Option, Some, None}
+use Rattle.std.specs.Prelude.{List, [], option_map}
 use Rattle.std.specs.Prelude.{◌∷◌, ◌++◌, find, length, slice_index}
 use Rattle.std.specs.Int.{Width, w8, w16, w32, w64, byte_len, to_le_bytes}
 use Rattle.iofd_words.specs.Rights.{has_flag}
@@ -244,3 +244,40 @@ pub record Spells (version : Version) (passes : ℕ) (r : Raw) (bytes : List ℕ
   pub given_fit : ListFits frames r.given
   pub bytes_are : bytes
       ≡ to_le_bytes w16 r.pass ++ (event ++ (reply ++ (list_spelled frames r.taken ++ list_spelled frames r.given)))
+
+-- ---- where memory is asked for
+
+-- by its row, a tag has ranges of addresses behind its numbers
+abbrev pub HasRanges : List Row → ℕ → Type 0
+HasRanges rows tag = option_map (λ row. row.list) (row_of rows tag) ≡ Some (Some entries)
+
+-- the bytes begin with frames, and not with none
+pub record BeginWithFrames (bytes : List ℕ) : Type 0 where
+  pub numbers : List (List ℕ)
+  pub some : numbers ≢ []
+  pub fit : ListFits frames numbers
+  pub rest : List ℕ
+  pub bytes_are : bytes ≡ list_spelled frames numbers ++ rest
+
+-- the bytes begin with a reply, and behind it with frames that were taken, or with none and then with frames that were
+-- given back
+pub record BeginWithMoves (version : Version) (bytes : List ℕ) : Type 0 where
+  pub reply : Tagged
+  pub text : List ℕ
+  pub reply_is : SpellsTagged (replies_of version) reply text
+  pub rest : List ℕ
+  pub bytes_are : bytes ≡ text ++ rest
+  pub moves : BeginWithFrames rest
+      ⊎ ((given : List ℕ) × (rest ≡ list_spelled frames [] ++ given) × BeginWithFrames given)
+
+-- the bytes begin with a pass and an event, and either the event has ranges, or behind it stand a reply and frames that
+-- were taken or given back
+pub record BeginWithList (version : Version) (passes : ℕ) (bytes : List ℕ) : Type 0 where
+  pub pass : ℕ
+  pub pass_is : pass < passes
+  pub event : Tagged
+  pub text : List ℕ
+  pub event_is : SpellsTagged (events_of version) event text
+  pub rest : List ℕ
+  pub bytes_are : bytes ≡ to_le_bytes w16 pass ++ (text ++ rest)
+  pub list : (HasRanges (events_of version) event.tag × (event.list ≢ [])) ⊎ BeginWithMoves version rest

@@ -94,3 +94,15 @@ pub record SpellsHead (version : Version) (s : Settings) (bytes : List ℕ) : Ty
   pub devices_fit : CountedFit (λ device. DeviceFits version device) s.devices
   pub passes_fit : s.passes < 2 ^ 16
   pub bytes_are : bytes ≡ head_spelled version s
+
+-- ---- where memory is asked for
+
+-- the bytes begin with a mark, the size of the pool and the limits of the users, which are the first list
+pub record BeginWithUsers (bytes : List ℕ) : Type 0 where
+  pub version : Version
+  pub pool : ℕ
+  pub pool_fits : pool < 2 ^ 32
+  pub users : List ℕ
+  pub users_fit : CountedFit LimitFits users
+  pub rest : List ℕ
+  pub bytes_are : bytes ≡ mark version ++ (to_le_bytes w32 pool ++ (counted limit_spelled users ++ rest))

@@ -1,5 +1,5 @@
 -- Reading a head from the front of bytes, as a function.
-use Rattle.std.specs.Prelude.{◌≡◌, ℕ, zero, suc, ◌+◌, ◌<◌, ◌≤◌, nat_le, Bool, true, false, ◌==◌, Option, Some, None}
+use Rattle.std.specs.Prelude.{◌≡◌, ℕ, zero, suc, ◌+◌, ◌*◌, ◌<◌, ◌≤◌, nat_le, Bool, true, false, ◌==◌, Option, Some, None}
 use Rattle.std.specs.Prelude.{List, [], ◌∷◌, length}
 use Rattle.std.specs.Prelude.{take, drop, if◌then◌else◌, is_none}
 use Rattle.std.specs.Int.{w8, w16, w32, w64}
@@ -32,6 +32,10 @@ unfoldable pub counted_at : {X : Type 0} → (List ℕ → Option (X × List ℕ
 counted_at one bytes = do
   n ← number_at w16 bytes
   many_at one n.0 n.1
+
+-- the number of a list stands at the front, and behind it as many bytes as so many elements have at least
+abbrev pub HasBytesFor : ℕ → List ℕ → Type 0
+HasBytesFor least bytes = (n : ℕ × List ℕ) × (number_at w16 bytes ≡ Some n) × (n.0 * least ≤ length n.1)
 
 unfoldable pub limit_at : List ℕ → Option (ℕ × List ℕ)
 limit_at bytes = number_at w64 bytes

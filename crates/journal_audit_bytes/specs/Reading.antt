@@ -1,5 +1,5 @@
 -- Reading a record from the front of bytes, as a function.
-use Rattle.std.specs.Prelude.{◌≡◌, ℕ, zero, suc, nat_lt, Bool, Option, Some, None, Result, Ok, Err, List, [], ◌∷◌}
+use Rattle.std.specs.Prelude.{◌≡◌, ◌≢◌, ℕ, zero, suc, nat_lt, Bool, Option, Some, None, Result, Ok, Err, List, [], ◌∷◌}
 use Rattle.std.specs.Prelude.{length, map, take, drop, if◌then◌else◌}
 use Rattle.std.specs.Int.{Width, w8, w16, byte_len, from_le_bytes}
 use Rattle.iofd_words.specs.Bounds.{Bounds}
@@ -16,7 +16,8 @@ use Rattle.journal_audit_bytes.specs.declared.spelled.ReadError.{ReadError}
 use Rattle.journal_audit_bytes.specs.declared.spelled.ReadError.TheVariants.{Memory, Torn}
 use Rattle.journal_audit_bytes.specs.declared.spelled.SpelledRecord.{SpelledRecord}
 use Rattle.journal_audit_bytes.specs.declared.version.Version.{Version}
-use Rattle.journal_audit_bytes.specs.Format.{Listed, Raw, Row, Tagged, events_of, frames, replies_of, row_of}
+use Rattle.journal_audit_bytes.specs.Format.{HasRanges, Listed, Raw, Row, Tagged, events_of, frames, replies_of}
+use Rattle.journal_audit_bytes.specs.Format.{row_of}
 
 infixl 10 ◌>>=◌
 abbrev pub ◌>>=◌ : {A B : Type 0} → Option A → (A → Option B) → Option B
@@ -35,11 +36,15 @@ abbrev pub Gives : {X Y : Type 0} → (X → Y) → Result X ReadError → Optio
 Gives view (Ok x) read = read ≡ Some (view x)
 Gives view (Err e) read = Fails e read
 
+-- P, if this is want of memory
+abbrev pub IfMemory : ReadError → Type 0 → Type 0
+IfMemory Torn P = Unit {0}
+IfMemory Memory P = P
+
 -- where memory was refused
 abbrev pub OnMemory : {X : Type 0} → Result X ReadError → Type 0 → Type 0
 OnMemory (Ok x) P = Unit {0}
-OnMemory (Err Torn) P = Unit {0}
-OnMemory (Err Memory) P = P
+OnMemory (Err e) P = IfMemory e P
 
 abbrev pub number_at : Width → List ℕ → Option (ℕ × List ℕ)
 number_at w bytes =
@@ -88,6 +93,14 @@ unfoldable pub tagged_at : List Row → List ℕ → Option (Tagged × List ℕ)
 tagged_at rows bytes = do
   tag ← number_at w8 bytes
   fields_of_tag rows tag.0 tag.1
+
+-- a list is read, and it isn't empty
+abbrev pub HasElements : Option (List (List ℕ) × List ℕ) → Type 0
+HasElements read = (x : List (List ℕ) × List ℕ) × (read ≡ Some x) × (x.0 ≢ [])
+
+-- what is read has ranges of addresses, by these rows
+abbrev pub IsWithRanges : List Row → Option (Tagged × List ℕ) → Type 0
+IsWithRanges rows read = (x : Tagged × List ℕ) × (read ≡ Some x) × HasRanges rows x.0.tag × (x.0.list ≢ [])
 
 unfoldable pub record_at : Version → ℕ → List ℕ → Option (Raw × List ℕ)
 record_at version passes bytes = do

@@ -1,10 +1,11 @@
 //! The fields of each command, read from the front of bytes, with the bytes after them.
 #![tactic(auto, unfolding(crate::specs::Format::is_kept, crate::specs::Reading::fields_of_tag, crate::specs::Reading::fields_of_row))]
 
-ghost use Rattle.std.specs.Prelude.{◌≡◌, ◌==◌, ◌&&◌, ◌||◌, nat_lt};
+ghost use Rattle.std.specs.Prelude.{◌≡◌, ◌==◌, ◌&&◌, ◌||◌, nat_lt, option_map};
 ghost use Rattle.iofd_words.specs.Rights.{has_flag};
 ghost use Rattle.journal_audit_bytes.specs.Format.{dirty_event_rows, event_rows};
-ghost use Rattle.journal_audit_bytes.specs.Reading.{Gives, fields_of_tag, tagged_event};
+ghost use Rattle.journal_audit_bytes.specs.Reading.{Gives, IsWithRanges, OnMemory, fields_of_tag};
+ghost use Rattle.journal_audit_bytes.specs.Reading.{tagged_event};
 
 use crate::lists::entries_at;
 use crate::numbers::{u8_at, u16_at, u32_at, u64_at};
@@ -15,23 +16,23 @@ use iofd_words::{
 };
 use std::alloc::Allocator;
 
-pub fn destroy_at<A: Allocator>(bytes: &[u8]) -> Result<(Event<A>, &[u8]), ReadError>
-    ensures { Gives (λ x. (tagged_event x.0, x.1.now)) result (fields_of_tag event_rows 0x80 bytes.now) }
+pub fn destroy_at<A: Allocator>(bytes: &[u8]) -> Option<(Event<A>, &[u8])>
+    ensures { fields_of_tag event_rows 0x80 bytes.now ≡ option_map (λ x. (tagged_event x.0, x.1.now)) result }
 {
     let (file, rest) = u16_at(bytes)?;
     let (id, rest) = u32_at(rest)?;
-    Ok((Event::Destroy(FileNo(file), ObjId(id)), rest))
+    Some((Event::Destroy(FileNo(file), ObjId(id)), rest))
 }
 
-pub fn ioas_alloc_at<A: Allocator>(bytes: &[u8]) -> Result<(Event<A>, &[u8]), ReadError>
-    ensures { Gives (λ x. (tagged_event x.0, x.1.now)) result (fields_of_tag event_rows 0x81 bytes.now) }
+pub fn ioas_alloc_at<A: Allocator>(bytes: &[u8]) -> Option<(Event<A>, &[u8])>
+    ensures { fields_of_tag event_rows 0x81 bytes.now ≡ option_map (λ x. (tagged_event x.0, x.1.now)) result }
 {
     let (file, rest) = u16_at(bytes)?;
-    Ok((Event::IoasAlloc(FileNo(file)), rest))
+    Some((Event::IoasAlloc(FileNo(file)), rest))
 }
 
-pub fn unmap_at<A: Allocator>(bytes: &[u8]) -> Result<(Event<A>, &[u8]), ReadError>
-    ensures { Gives (λ x. (tagged_event x.0, x.1.now)) result (fields_of_tag event_rows 0x86 bytes.now) }
+pub fn unmap_at<A: Allocator>(bytes: &[u8]) -> Option<(Event<A>, &[u8])>
+    ensures { fields_of_tag event_rows 0x86 bytes.now ≡ option_map (λ x. (tagged_event x.0, x.1.now)) result }
 {
     let (file, rest) = u16_at(bytes)?;
     let (ioas, rest) = u32_at(rest)?;
@@ -39,27 +40,32 @@ pub fn unmap_at<A: Allocator>(bytes: &[u8]) -> Result<(Event<A>, &[u8]), ReadErr
     let (length, rest) = u64_at(rest)?;
     let (ioas, iova) = (ObjId(ioas), Iova(iova));
     let request = UnmapRequest { ioas, iova, length };
-    Ok((Event::Unmap(FileNo(file), request), rest))
+    Some((Event::Unmap(FileNo(file), request), rest))
 }
 
-pub fn hwpt_alloc_at<A: Allocator>(bytes: &[u8]) -> Result<(Event<A>, &[u8]), ReadError>
-    ensures { Gives (λ x. (tagged_event x.0, x.1.now)) result (fields_of_tag event_rows 0x89 bytes.now) }
+pub fn hwpt_alloc_at<A: Allocator>(bytes: &[u8]) -> Option<(Event<A>, &[u8])>
+    ensures { fields_of_tag event_rows 0x89 bytes.now ≡ option_map (λ x. (tagged_event x.0, x.1.now)) result }
 {
     let (file, rest) = u16_at(bytes)?;
     let (device, rest) = u32_at(rest)?;
     let (ioas, rest) = u32_at(rest)?;
     let (device, ioas) = (ObjId(device), ObjId(ioas));
-    Ok((
+    Some((
         Event::HwptAlloc(FileNo(file), HwptRequest { device, ioas }),
         rest,
     ))
 }
 
 pub fn allow_iovas_at<A: Allocator>(alloc: A, bytes: &[u8]) -> Result<(Event<A>, &[u8]), ReadError>
-    ensures { Gives (λ x. (tagged_event x.0, x.1.now)) result (fields_of_tag event_rows 0x82 bytes.now) }
+    ensures read { Gives (λ x. (tagged_event x.0, x.1.now)) result (fields_of_tag event_rows 0x82 bytes.now) }
+    ensures memory { OnMemory result (IsWithRanges event_rows (fields_of_tag event_rows 0x82 bytes.now)) }
 {
-    let (file, rest) = u16_at(bytes)?;
-    let (ioas, rest) = u32_at(rest)?;
+    let Some((file, rest)) = u16_at(bytes) else {
+        return Err(ReadError::Torn);
+    };
+    let Some((ioas, rest)) = u32_at(rest) else {
+        return Err(ReadError::Torn);
+    };
     let (ranges, rest) = entries_at(alloc, rest)?;
     Ok((Event::AllowIovas(FileNo(file), ObjId(ioas), ranges), rest))
 }
@@ -71,8 +77,8 @@ fn is_kept(flags: u32, iova: u64) -> bool
     flags < 8 && (MapFlags(flags).is_fixed() || iova == 0)
 }
 
-pub fn map_at<A: Allocator>(bytes: &[u8]) -> Result<(Event<A>, &[u8]), ReadError>
-    ensures { Gives (λ x. (tagged_event x.0, x.1.now)) result (fields_of_tag event_rows 0x85 bytes.now) }
+pub fn map_at<A: Allocator>(bytes: &[u8]) -> Option<(Event<A>, &[u8])>
+    ensures { fields_of_tag event_rows 0x85 bytes.now ≡ option_map (λ x. (tagged_event x.0, x.1.now)) result }
 {
     let (file, rest) = u16_at(bytes)?;
     let (flags, rest) = u32_at(rest)?;
@@ -81,7 +87,7 @@ pub fn map_at<A: Allocator>(bytes: &[u8]) -> Result<(Event<A>, &[u8]), ReadError
     let (length, rest) = u64_at(rest)?;
     let (iova, rest) = u64_at(rest)?;
     if !is_kept(flags, iova) {
-        return Err(ReadError::Torn);
+        return None;
     }
     let request = MapRequest {
         flags: MapFlags(flags),
@@ -90,11 +96,11 @@ pub fn map_at<A: Allocator>(bytes: &[u8]) -> Result<(Event<A>, &[u8]), ReadError
         length,
         iova: Iova(iova),
     };
-    Ok((Event::Map(FileNo(file), request), rest))
+    Some((Event::Map(FileNo(file), request), rest))
 }
 
-pub fn copy_at<A: Allocator>(bytes: &[u8]) -> Result<(Event<A>, &[u8]), ReadError>
-    ensures { Gives (λ x. (tagged_event x.0, x.1.now)) result (fields_of_tag event_rows 0x83 bytes.now) }
+pub fn copy_at<A: Allocator>(bytes: &[u8]) -> Option<(Event<A>, &[u8])>
+    ensures { fields_of_tag event_rows 0x83 bytes.now ≡ option_map (λ x. (tagged_event x.0, x.1.now)) result }
 {
     let (file, rest) = u16_at(bytes)?;
     let (flags, rest) = u32_at(rest)?;
@@ -104,7 +110,7 @@ pub fn copy_at<A: Allocator>(bytes: &[u8]) -> Result<(Event<A>, &[u8]), ReadErro
     let (dst_iova, rest) = u64_at(rest)?;
     let (src_iova, rest) = u64_at(rest)?;
     if !is_kept(flags, dst_iova) {
-        return Err(ReadError::Torn);
+        return None;
     }
     let request = CopyRequest {
         flags: MapFlags(flags),
@@ -114,26 +120,26 @@ pub fn copy_at<A: Allocator>(bytes: &[u8]) -> Result<(Event<A>, &[u8]), ReadErro
         dst_iova: Iova(dst_iova),
         src_iova: Iova(src_iova),
     };
-    Ok((Event::Copy(FileNo(file), request), rest))
+    Some((Event::Copy(FileNo(file), request), rest))
 }
 
 // ---- of version 2 alone
 
-pub fn dirty_enable_at<A: Allocator>(bytes: &[u8]) -> Result<(Event<A>, &[u8]), ReadError>
-    ensures { Gives (λ x. (tagged_event x.0, x.1.now)) result (fields_of_tag dirty_event_rows 0xf0 bytes.now) }
+pub fn dirty_enable_at<A: Allocator>(bytes: &[u8]) -> Option<(Event<A>, &[u8])>
+    ensures { fields_of_tag dirty_event_rows 0xf0 bytes.now ≡ option_map (λ x. (tagged_event x.0, x.1.now)) result }
 {
     let (file, rest) = u16_at(bytes)?;
     let (hwpt, rest) = u32_at(rest)?;
     let (on, rest) = u8_at(rest)?;
     if on > 1 {
-        return Err(ReadError::Torn);
+        return None;
     }
     let on = on == 1;
-    Ok((Event::DirtyEnable(FileNo(file), ObjId(hwpt), on), rest))
+    Some((Event::DirtyEnable(FileNo(file), ObjId(hwpt), on), rest))
 }
 
-pub fn dirty_clear_at<A: Allocator>(bytes: &[u8]) -> Result<(Event<A>, &[u8]), ReadError>
-    ensures { Gives (λ x. (tagged_event x.0, x.1.now)) result (fields_of_tag dirty_event_rows 0xf1 bytes.now) }
+pub fn dirty_clear_at<A: Allocator>(bytes: &[u8]) -> Option<(Event<A>, &[u8])>
+    ensures { fields_of_tag dirty_event_rows 0xf1 bytes.now ≡ option_map (λ x. (tagged_event x.0, x.1.now)) result }
 {
     let (file, rest) = u16_at(bytes)?;
     let (hwpt, rest) = u32_at(rest)?;
@@ -141,5 +147,5 @@ pub fn dirty_clear_at<A: Allocator>(bytes: &[u8]) -> Result<(Event<A>, &[u8]), R
     let (length, rest) = u64_at(rest)?;
     let (hwpt, iova) = (ObjId(hwpt), Iova(iova));
     let request = DirtyRequest { hwpt, iova, length };
-    Ok((Event::DirtyClear(FileNo(file), request), rest))
+    Some((Event::DirtyClear(FileNo(file), request), rest))
 }

@@ -1,7 +1,7 @@
 //! Lists of a head, each behind its number.
 
 ghost use Rattle.std.specs.Prelude.{◌≡◌, ◌*◌, ◌≤◌, length};
-ghost use Rattle.journal_audit_bytes.specs.HeadReading.{TakesLeast, counted_at, many_at};
+ghost use Rattle.journal_audit_bytes.specs.HeadReading.{HasBytesFor, TakesLeast, counted_at, many_at};
 ghost use Rattle.journal_audit_bytes.specs.Reading.{Gives, OnMemory};
 
 use crate::numbers::u16_at;
@@ -53,7 +53,8 @@ fn many_at<A: Allocator + Copy, T: Element<A>>(
     Ok((elements, rest))
 }
 
-/// As many as the number at the front says, and the bytes after them.
+/// As many as the number at the front says, and the bytes after them. Where the bytes are too few for them, it takes no
+/// memory.
 #[tactic(auto, unfolding(crate::specs::HeadReading::counted_at))]
 pub fn counted_at<A: Allocator + Copy, T: Element<A>>(
     alloc: A,
@@ -61,8 +62,11 @@ pub fn counted_at<A: Allocator + Copy, T: Element<A>>(
     bytes: &[u8],
 ) -> Result<(Vec<T, A>, &[u8]), ReadError>
     requires { TakesLeast (T.at version) T.least }
-    ensures { Gives (λ x. (x.0.items, x.1.now)) result (counted_at (T.at version) bytes.now) }
+    ensures read { Gives (λ x. (x.0.items, x.1.now)) result (counted_at (T.at version) bytes.now) }
+    ensures memory { OnMemory result (HasBytesFor T.least bytes.now) }
 {
-    let (count, rest) = u16_at(bytes)?;
+    let Some((count, rest)) = u16_at(bytes) else {
+        return Err(ReadError::Torn);
+    };
     many_at(alloc, version, usize::from(count), rest)
 }

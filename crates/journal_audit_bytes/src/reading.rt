@@ -1,10 +1,10 @@
 //! From bytes to a record.
 
-ghost use Rattle.std.specs.Prelude.{◌≡◌, ◌++◌, List, ℕ, Some, IfOk};
-ghost use Rattle.journal_audit_bytes.specs.Format.{Raw, Spells, dirty_event_rows, dirty_reply_rows, event_rows};
-ghost use Rattle.journal_audit_bytes.specs.Format.{events_of, frames, replies_of, reply_rows};
-ghost use Rattle.journal_audit_bytes.specs.Reading.{Gives, fields_of_tag, of_frames, raw_of, record_at, tagged_at};
-ghost use Rattle.journal_audit_bytes.specs.Reading.{tagged_event, tagged_reply};
+ghost use Rattle.std.specs.Prelude.{◌≡◌, ◌≢◌, ◌++◌, List, ℕ, Some, IfOk, option_map};
+ghost use Rattle.journal_audit_bytes.specs.Format.{BeginWithList, Raw, Spells, dirty_event_rows, dirty_reply_rows};
+ghost use Rattle.journal_audit_bytes.specs.Format.{event_rows, events_of, frames, replies_of, reply_rows};
+ghost use Rattle.journal_audit_bytes.specs.Reading.{Gives, IsWithRanges, OnMemory, fields_of_tag, of_frames, raw_of};
+ghost use Rattle.journal_audit_bytes.specs.Reading.{record_at, tagged_at, tagged_event, tagged_reply};
 
 use crate::commands::{
     allow_iovas_at, copy_at, destroy_at, dirty_clear_at, dirty_enable_at, hwpt_alloc_at,
@@ -22,14 +22,11 @@ use crate::version::Version;
 use iofd_words::{Event, PassNo};
 use std::alloc::Allocator;
 
-// The event of a tag that either version has, by the fields at the front.
+// The event of a tag that either version has, other than that with ranges, by the fields at the front.
 #[tactic(auto, unfolding(crate::specs::Reading::fields_of_tag))]
-fn event_of_tag<A: Allocator>(
-    alloc: A,
-    tag: u8,
-    bytes: &[u8],
-) -> Result<(Event<A>, &[u8]), ReadError>
-    ensures { Gives (λ x. (tagged_event x.0, x.1.now)) result (fields_of_tag event_rows tag bytes.now) }
+fn plain_event_of_tag<A: Allocator>(tag: u8, bytes: &[u8]) -> Option<(Event<A>, &[u8])>
+    requires { tag ≢ 0x82 }
+    ensures { fields_of_tag event_rows tag bytes.now ≡ option_map (λ x. (tagged_event x.0, x.1.now)) result }
 {
     match tag {
         0x01 => close_at(bytes),
@@ -50,45 +47,63 @@ fn event_of_tag<A: Allocator>(
         0x10 => access_write_at(bytes),
         0x80 => destroy_at(bytes),
         0x81 => ioas_alloc_at(bytes),
-        0x82 => allow_iovas_at(alloc, bytes),
         0x83 => copy_at(bytes),
         0x85 => map_at(bytes),
         0x86 => unmap_at(bytes),
         0x89 => hwpt_alloc_at(bytes),
-        _ => Err(ReadError::Torn),
+        _ => None,
     }
 }
 
 // The event of a tag that version 2 alone has.
 #[tactic(auto, unfolding(crate::specs::Reading::fields_of_tag))]
-fn dirty_event_of_tag<A: Allocator>(tag: u8, bytes: &[u8]) -> Result<(Event<A>, &[u8]), ReadError>
-    ensures { Gives (λ x. (tagged_event x.0, x.1.now)) result (fields_of_tag dirty_event_rows tag bytes.now) }
+fn dirty_event_of_tag<A: Allocator>(tag: u8, bytes: &[u8]) -> Option<(Event<A>, &[u8])>
+    ensures { fields_of_tag dirty_event_rows tag bytes.now ≡ option_map (λ x. (tagged_event x.0, x.1.now)) result }
 {
     match tag {
         0xf0 => dirty_enable_at(bytes),
         0xf1 => dirty_clear_at(bytes),
-        _ => Err(ReadError::Torn),
+        _ => None,
     }
 }
 
-// The event of a tag of the version.
+// The event of a tag of the version, other than that with ranges.
+fn plain_event_of<A: Allocator>(
+    version: Version,
+    tag: u8,
+    bytes: &[u8],
+) -> Option<(Event<A>, &[u8])>
+    requires { tag ≢ 0x82 }
+    ensures { fields_of_tag (events_of version) tag bytes.now
+        ≡ option_map (λ x. (tagged_event x.0, x.1.now)) result }
+{
+    match version {
+        Version::One => plain_event_of_tag(tag, bytes),
+        Version::Two => {
+            if tag >= 0xf0 {
+                return dirty_event_of_tag(tag, bytes);
+            }
+            plain_event_of_tag(tag, bytes)
+        }
+    }
+}
+
+// The event of a tag of the version. Ranges alone take memory.
 fn event_of<A: Allocator>(
     alloc: A,
     version: Version,
     tag: u8,
     bytes: &[u8],
 ) -> Result<(Event<A>, &[u8]), ReadError>
-    ensures { Gives (λ x. (tagged_event x.0, x.1.now)) result (fields_of_tag (events_of version) tag bytes.now) }
+    ensures read { Gives (λ x. (tagged_event x.0, x.1.now)) result
+        (fields_of_tag (events_of version) tag bytes.now) }
+    ensures memory { OnMemory result
+        (IsWithRanges (events_of version) (fields_of_tag (events_of version) tag bytes.now)) }
 {
-    match version {
-        Version::One => event_of_tag(alloc, tag, bytes),
-        Version::Two => {
-            if tag >= 0xf0 {
-                return dirty_event_of_tag(tag, bytes);
-            }
-            event_of_tag(alloc, tag, bytes)
-        }
+    if tag == 0x82 {
+        return allow_iovas_at(alloc, bytes);
     }
+    plain_event_of(version, tag, bytes).ok_or(ReadError::Torn)
 }
 
 #[tactic(auto, unfolding(crate::specs::Reading::tagged_at))]
@@ -97,59 +112,62 @@ fn event_at<A: Allocator>(
     version: Version,
     bytes: &[u8],
 ) -> Result<(Event<A>, &[u8]), ReadError>
-    ensures { Gives (λ x. (tagged_event x.0, x.1.now)) result (tagged_at (events_of version) bytes.now) }
+    ensures read { Gives (λ x. (tagged_event x.0, x.1.now)) result (tagged_at (events_of version) bytes.now) }
+    ensures memory { OnMemory result (IsWithRanges (events_of version) (tagged_at (events_of version) bytes.now)) }
 {
-    let (tag, rest) = u8_at(bytes)?;
+    let Some((tag, rest)) = u8_at(bytes) else {
+        return Err(ReadError::Torn);
+    };
     event_of(alloc, version, tag, rest)
 }
 
 // The reply of a tag that either version has, by the fields at the front.
 #[tactic(auto, unfolding(crate::specs::Reading::fields_of_tag, crate::specs::Reading::fields_of_row))]
-fn reply_of_tag(tag: u8, bytes: &[u8]) -> Result<(SpelledReply, &[u8]), ReadError>
-    ensures { Gives (λ x. (tagged_reply x.0, x.1.now)) result (fields_of_tag reply_rows tag bytes.now) }
+fn reply_of_tag(tag: u8, bytes: &[u8]) -> Option<(SpelledReply, &[u8])>
+    ensures { fields_of_tag reply_rows tag bytes.now ≡ option_map (λ x. (tagged_reply x.0, x.1.now)) result }
 {
     match tag {
-        0x00 => Ok((SpelledReply::Done, bytes)),
+        0x00 => Some((SpelledReply::Done, bytes)),
         0x01 => {
             let (id, rest) = u32_at(bytes)?;
-            Ok((SpelledReply::Id(id), rest))
+            Some((SpelledReply::Id(id), rest))
         }
         0x02 => {
             let (iova, rest) = u64_at(bytes)?;
-            Ok((SpelledReply::Iova(iova), rest))
+            Some((SpelledReply::Iova(iova), rest))
         }
         0x03 => {
             let (count, rest) = u64_at(bytes)?;
-            Ok((SpelledReply::Bytes(count), rest))
+            Some((SpelledReply::Bytes(count), rest))
         }
         0x04 => {
             let (errno, rest) = u8_at(bytes)?;
-            Ok((SpelledReply::Pending(errno), rest))
+            Some((SpelledReply::Pending(errno), rest))
         }
         0x05 => {
             let (frame, rest) = u32_at(bytes)?;
-            Ok((SpelledReply::Frame(frame), rest))
+            Some((SpelledReply::Frame(frame), rest))
         }
         0x06 => {
             let (frame, rest) = u32_at(bytes)?;
-            Ok((SpelledReply::Passed(frame), rest))
+            Some((SpelledReply::Passed(frame), rest))
         }
         0x07 => {
             let (reason, rest) = u8_at(bytes)?;
-            Ok((SpelledReply::Fault(reason), rest))
+            Some((SpelledReply::Fault(reason), rest))
         }
         0x08 => {
             let (number, rest) = u8_at(bytes)?;
-            Ok((SpelledReply::Refused(number), rest))
+            Some((SpelledReply::Refused(number), rest))
         }
-        _ => Err(ReadError::Torn),
+        _ => None,
     }
 }
 
 // The reply of a tag that version 2 alone has: the words by which it is told which pages were written.
 #[tactic(auto, unfolding(crate::specs::Reading::fields_of_tag, crate::specs::Reading::fields_of_row))]
-fn dirty_reply_of_tag(tag: u8, bytes: &[u8]) -> Result<(SpelledReply, &[u8]), ReadError>
-    ensures { Gives (λ x. (tagged_reply x.0, x.1.now)) result (fields_of_tag dirty_reply_rows tag bytes.now) }
+fn dirty_reply_of_tag(tag: u8, bytes: &[u8]) -> Option<(SpelledReply, &[u8])>
+    ensures { fields_of_tag dirty_reply_rows tag bytes.now ≡ option_map (λ x. (tagged_reply x.0, x.1.now)) result }
 {
     match tag {
         0x09 => {
@@ -157,15 +175,16 @@ fn dirty_reply_of_tag(tag: u8, bytes: &[u8]) -> Result<(SpelledReply, &[u8]), Re
             let (second, rest) = u64_at(rest)?;
             let (third, rest) = u64_at(rest)?;
             let (fourth, rest) = u64_at(rest)?;
-            Ok((SpelledReply::Dirty([first, second, third, fourth]), rest))
+            Some((SpelledReply::Dirty([first, second, third, fourth]), rest))
         }
-        _ => Err(ReadError::Torn),
+        _ => None,
     }
 }
 
 // The reply of a tag of the version.
-fn reply_of(version: Version, tag: u8, bytes: &[u8]) -> Result<(SpelledReply, &[u8]), ReadError>
-    ensures { Gives (λ x. (tagged_reply x.0, x.1.now)) result (fields_of_tag (replies_of version) tag bytes.now) }
+fn reply_of(version: Version, tag: u8, bytes: &[u8]) -> Option<(SpelledReply, &[u8])>
+    ensures { fields_of_tag (replies_of version) tag bytes.now
+        ≡ option_map (λ x. (tagged_reply x.0, x.1.now)) result }
 {
     match version {
         Version::One => reply_of_tag(tag, bytes),
@@ -179,8 +198,8 @@ fn reply_of(version: Version, tag: u8, bytes: &[u8]) -> Result<(SpelledReply, &[
 }
 
 #[tactic(auto, unfolding(crate::specs::Reading::tagged_at))]
-fn reply_at(version: Version, bytes: &[u8]) -> Result<(SpelledReply, &[u8]), ReadError>
-    ensures { Gives (λ x. (tagged_reply x.0, x.1.now)) result (tagged_at (replies_of version) bytes.now) }
+fn reply_at(version: Version, bytes: &[u8]) -> Option<(SpelledReply, &[u8])>
+    ensures { tagged_at (replies_of version) bytes.now ≡ option_map (λ x. (tagged_reply x.0, x.1.now)) result }
 {
     let (tag, rest) = u8_at(bytes)?;
     reply_of(version, tag, rest)
@@ -193,14 +212,19 @@ fn record_at<A: Allocator + Copy>(
     passes: u16,
     bytes: &[u8],
 ) -> Result<(SpelledRecord<A>, &[u8]), ReadError>
-    ensures { Gives (λ x. (raw_of x.0, x.1.now)) result (record_at version passes bytes.now) }
+    ensures read { Gives (λ x. (raw_of x.0, x.1.now)) result (record_at version passes bytes.now) }
+    ensures memory { OnMemory result (BeginWithList version passes bytes.now) }
 {
-    let (pass, rest) = u16_at(bytes)?;
+    let Some((pass, rest)) = u16_at(bytes) else {
+        return Err(ReadError::Torn);
+    };
     if pass >= passes {
         return Err(ReadError::Torn);
     }
     let (event, rest) = event_at(alloc, version, rest)?;
-    let (reply, rest) = reply_at(version, rest)?;
+    let Some((reply, rest)) = reply_at(version, rest) else {
+        return Err(ReadError::Torn);
+    };
     let (taken, rest) = frames_at(alloc, rest)?;
     let (given, rest) = frames_at(alloc, rest)?;
     let pass = PassNo(pass);
@@ -218,7 +242,9 @@ fn record_at<A: Allocator + Copy>(
 /// passes. The error is Torn where the bytes begin with no record: they end within it, the version has no such tag, its
 /// pass isn't below the passes, an access has no byte or more than 64, what a pin is for or whether pages are tracked
 /// is neither 0 nor 1, flags have an unknown bit, or an address that they don't fix isn't 0. It is Memory where the
-/// memory for a list of the record was refused; a list for which the bytes are too few takes none.
+/// memory for a list of the record was refused; an empty list takes none, nor does one for which the bytes are too few.
+/// So it is Memory only where the bytes begin with a pass and a whole event, and that has ranges, or behind it stand a
+/// reply and frames that were taken or given back.
 pub fn read_record<A: Allocator + Copy>(
     alloc: A,
     version: Version,
@@ -231,6 +257,8 @@ pub fn read_record<A: Allocator + Copy>(
     // What is spelled so is read, unless memory was refused: the bytes are torn only where they begin with no record.
     ensures only { (r : Raw) (text rest : List ℕ) → Spells version passes r text → bytes.now ≡ text ++ rest →
         Gives {Y = Raw × List ℕ} (λ x. (raw_of x.0, x.1.now)) result (Some (r, rest)) }
+    // Memory is asked for lists alone, and for none but those that are whole and not empty.
+    ensures memory { OnMemory result (BeginWithList version passes bytes.now) }
     // A record has one spelling.
     ensures one { (r : Raw) (a b : List ℕ) → Spells version passes r a → Spells version passes r b → a ≡ b }
 {

@@ -1,6 +1,6 @@
 -- A writer takes the lanes upwards, and puts them back downwards.
 use Rattle.std.proofs.Common.{true, false, ◌≡◌, ◌≢◌, inl, inr, ⊎_elim, ℕ, zero, suc, ◌+◌, ◌-◌, ◌<◌, ◌≤◌, List, ◌∷◌}
-use Rattle.std.proofs.Common.{length, drop}
+use Rattle.std.proofs.Common.{cond, ◌==◌, length, drop}
 use Rattle.std.proofs.Common.{get_or, set, length-set, sym, refl, ap, ◌∙◌, subst, arith, Option, Some, None}
 use Rattle.std.proofs.Common.{get_or-set_same, get_or-set_other}
 use mathlib.Core.Logic.{dite}
@@ -14,9 +14,9 @@ use Rattle.lane_lock.specs.Rule.{Names, place}
 use Rattle.lane_lock.proofs.Keeps.{names_some}
 use Rattle.lane_lock.specs.Hands.{Shows, Stack, Climbed, Lowered}
 use Rattle.lane_lock.specs.Steps.{Mine, Takes, IsShare, Offers}
-use Rattle.lane_lock.specs.Views.{freed, noted, holding, pin_or}
+use Rattle.lane_lock.specs.Views.{freed, noted, holding, pin_or, writes_with}
 use Rattle.lane_lock.proofs.Guards.{in_front}
-use Rattle.lane_lock.proofs.Writes.{zero_there}
+use Rattle.lane_lock.proofs.Writes.{last_counts, lower_counts_not, zero_there}
 
 pin_kept : (n m : ℕ) → n ≢ 0 → pin_or n m ≡ n
 pin_kept zero m q = absurd (q refl)
@@ -30,10 +30,25 @@ module _ {K E Z : Type 0} (hist : K → List E) (by : E → ℕ) where
       (x, e ∙ (λ i. (place (suc n), x) ∷ ap rest (sym e) i), s, subst (λ c. Stack (Shows hist h) n c below) (ap rest (sym e)) t)
 
   shows_it : (v v' : View E) (k w : ℕ) (x : Option (Arc K Z)) → v.pin ≢ 0 → Takes false hist by v k w x v'
-      → Shows hist v.seen x × (v' ≡ holding v k w)
+      → Shows hist v.seen x × (v' ≡ holding false v k w)
   shows_it v v' k w None p t = (tt, t.0)
   shows_it v v' k w (Some a) p t = let same =
-      t.3 p in (same, t.0 ∙ (λ i. record v { held = set v.held k w; seen = same i; pin = pin_kept v.pin (k + 1) p i }))
+      t.3 p in (
+        same,
+        t.0 ∙ (λ i. record v {
+          held = set v.held k w;
+          seen = same i;
+          pin = pin_kept v.pin (k + 1) p i;
+          writes = writes_with false v k;
+        }),
+      )
+
+  -- lane n + 1 was taken, which counts if it is the last
+  climb_counts : (m m' m'' : Mine K E Z) (w n : ℕ) → suc n < length m.0.held → Climbed hist m w n m'
+      → m''.0.writes ≡ writes_with false m'.0 (suc n)
+      → m''.0.writes ≡ cond (suc n + 1 == length m.0.held) (m.0.writes + 1) m.0.writes
+  climb_counts m m' m'' w n lt c grown = let before : m'.0.writes ≡ m.0.writes = c.not_all (inr (omega arith)) in
+      grown ∙ (λ i. cond (suc n + 1 == c.long i) (before i + 1) (before i))
 
   pub climb_one : (m m' m'' : Mine K E Z) (w n : ℕ) (x : Option (Arc K Z)) → m.0.pin ≢ 0 → suc n < length m.0.held
       → Climbed hist m w n m' → m''.1 ≡ (place (suc n), x) ∷ m'.1 → Takes false hist by m'.0 (suc n) w x m''.0
@@ -45,6 +60,7 @@ module _ {K E Z : Type 0} (hist : K → List E) (by : E → ℕ) where
       let seen : m'.0.seen ≡ m.0.seen = ap (λ (v : View E). v.seen) c.view in
       let held : m''.0.held ≡ set m'.0.held (suc n) w = ap (λ (v : View E). v.held) t.1 in
       let long = c.long in
+      let had = climb_counts m m' m'' w n lt c (ap (λ (v : View E). v.writes) t.1) in
       let at : (k : ℕ) → k ≡ suc n → get_or m''.0.held k 0 ≡ w = λ k e. ap (λ (l : List ℕ). get_or l k 0) held
       ∙ (ap (λ (i : ℕ). get_or (set m'.0.held (suc n) w) i 0) e
       ∙ get_or-set_same m'.0.held (suc n) w 0 (omega arith)) in
@@ -52,8 +68,12 @@ module _ {K E Z : Type 0} (hist : K → List E) (by : E → ℕ) where
       λ k e. ap (λ (l : List ℕ). get_or l k 0) held ∙ get_or-set_other m'.0.held (suc n) k w 0 e in
       record {
         stack = stacked m.0.seen n x m'.1 m''.1 m.1 hand (subst (λ h. Shows hist h x) seen t.0) c.stack;
-        view = t.1 ∙ ((λ i. record (c.view i) { held = set m'.0.held (suc n) w })
-            ∙ (λ i. record m.0 { held = sym held i }));
+        view = t.1
+            ∙ ((λ i. record (c.view i) { held = set m'.0.held (suc n) w; writes = writes_with false m'.0 (suc n) })
+            ∙ (λ i. record m.0 { held = sym held i; writes = sym (ap (λ (v : View E). v.writes) t.1) i }));
+        not_all = λ p. had ∙ lower_counts_not (suc n) (length m.0.held) m.0.writes
+            (⊎_elim (λ (z : suc n ≡ 0). λ e. omega arith) (λ (z : suc n + 1 < length m.0.held). λ e. omega arith) p);
+        all = λ some e. had ∙ last_counts (suc n) (length m.0.held) m.0.writes e;
         long = ap length held ∙ (length-set m'.0.held (suc n) w ∙ c.long);
         low = λ k p le. dite (ℕ_discrete k (suc n))
             (λ e. (
@@ -69,7 +89,15 @@ module _ {K E Z : Type 0} (hist : K → List E) (by : E → ℕ) where
 
   pub climb_none : (m : Mine K E Z) (w : ℕ) → Climbed hist m w 0 m
   climb_none m w =
-      record { stack = refl; view = refl; long = refl; low = λ k p le. absurd (omega arith); else_same = λ k p. refl }
+      record {
+        stack = refl;
+        view = refl;
+        not_all = λ p. refl;
+        all = λ some e. absurd (omega arith);
+        long = refl;
+        low = λ k p le. absurd (omega arith);
+        else_same = λ k p. refl;
+      }
 
   pub climb_next : (m m' m'' : Mine K E Z) (w lane : ℕ) (x : Option (Arc K Z)) → 0 < lane → m.0.pin ≢ 0
       → lane < length m.0.held → Climbed hist m w (lane - 1) m' → m''.1 ≡ (place lane, x) ∷ m'.1

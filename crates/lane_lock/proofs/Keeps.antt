@@ -19,7 +19,7 @@ use Rattle.lane_lock.specs.declared.table.Setup.{Setup}
 use Rattle.lane_lock.specs.History.{StartsWith, made_by, Legal}
 use Rattle.lane_lock.specs.Rule.{Names, Knows, Has, Ruled, place, lane_at}
 use Rattle.lane_lock.specs.Steps.{Mine, Takes, took, IsShare}
-use Rattle.lane_lock.specs.Views.{holding, seeing, pin_or, freed, noted, found_empty}
+use Rattle.lane_lock.specs.Views.{holding, seeing, pin_or, freed, noted, found_empty, writes_with}
 
 -- lanes lie apart
 pub apart_there : (i k : ℕ) → i ≢ k → place i ≢ place k
@@ -102,7 +102,7 @@ module _ {K E : Type 0} (Z : Type 0) (hist : K → List E) (by : E → ℕ) (key
   }
 
   -- a step of the pass of d on lane k, whose word becomes x, while the history stays
-  lane_step : (s : St) (r : Rule s) (id k x pin empty empty_lane : ℕ) (d : V) (seen : List E)
+  lane_step : (s : St) (r : Rule s) (id k x pin empty empty_lane reads writes : ℕ) (d : V) (seen : List E)
       (homes' : List (maybe.Option (Option (Arc K Z)))) → get_elem? s.views id ≡ some d → d.stands ≡ true
       → k < key.lanes
       → (get_or s.words (place k) 0 ≡ 0) ⊎ Names d.number (get_or s.words (place k) 0) → (x ≢ 0 → Names d.number x)
@@ -122,15 +122,20 @@ module _ {K E : Type 0} (Z : Type 0) (hist : K → List E) (by : E → ℕ) (key
           pin = pin;
           empty = empty;
           empty_lane = empty_lane;
+          reads = reads;
+          writes = writes;
         });
       }
-  lane_step s r id k x pin empty empty_lane d seen homes' at up small own names fits pinned deep apart home out shown filled =
+  lane_step s r id k x pin empty empty_lane reads writes d seen homes' at up small own names fits pinned deep apart home
+      out shown filled =
       let w : V = record d {
         held = set d.held k x;
         seen = seen;
         pin = pin;
         empty = empty;
         empty_lane = empty_lane;
+        reads = reads;
+        writes = writes;
       } in
       let mine = r.each id d at in
       let std = mine.stands up in
@@ -273,29 +278,30 @@ module _ {K E : Type 0} (Z : Type 0) (hist : K → List E) (by : E → ℕ) (key
           ))
           (λ z. (h.0, set_else s.views id (r.seat q) w z ∙ h.1, h.2, h.3, h.4))
 
-  takes_it : (reads : Bool) (s : St) (r : Rule s) (id k w : ℕ) (me : Mine K E Z) (x : Option (Arc K Z))
+  takes_it : (to_read : Bool) (s : St) (r : Rule s) (id k w : ℕ) (me : Mine K E Z) (x : Option (Arc K Z))
       → get_elem? s.views id ≡ some me.0 → me.0.stands ≡ true → Names me.0.number w → k < key.lanes
       → get_or s.words (place k) 0 ≡ 0 → get_elem? s.homes (place k) ≡ some (some x)
       → (v : V) × (a : Act (Option (Arc K Z))) × Valid s.homes me.1 a × Rule (stepped s (place k) w id me.1 v a)
-      × ((y : Option (Arc K Z)) × (carried_after me.1 a ≡ (place k, y) ∷ me.1) × Takes reads hist by me.0 k w y v
+      × ((y : Option (Arc K Z)) × (carried_after me.1 a ≡ (place k, y) ∷ me.1) × Takes to_read hist by me.0 k w y v
       × (get_or me.0.held k 0 ≡ 0))
-  takes_it reads s r id k w me None at up names small free here = let d : V = me.0 in let mine =
+  takes_it to_read s r id k w me None at up names small free here = let d : V = me.0 in let mine =
       r.each id d at in let std = mine.stands up in let deep = r.deep in let some_word = names_some d.number w names in
       let blank : get_or d.held k 0 ≡ 0 =
       dite (ℕ_discrete (get_or d.held k 0) 0) (λ z. z) (λ n. absurd (n (sym (mine.held k n).0 ∙ free))) in
       let zeroth : k ≢ 0 = λ z. r.filled (ap (λ (i : ℕ). get_elem? s.homes (place i)) (sym z) ∙ here) in (
-        found_empty reads (holding d k w) k,
+        found_empty to_read (holding to_read d k w) k,
         takes (place k) None,
         here,
-        lane_step s r id k w d.pin (if reads then d.empty + 1 else d.empty) (if reads then k else d.empty_lane) d d.seen
-            (set s.homes (place k) none) at up small (inl free) (λ _. names) std.4
+        lane_step s r id k w d.pin (if to_read then d.empty + 1 else d.empty) (if to_read then k else d.empty_lane)
+            d.reads (writes_with to_read d k) d d.seen (set s.homes (place k) none) at up small (inl free)
+            (λ _. names) std.4
             (λ n. let p = mine.pin n in (p.0, still_held d.held k w (d.pin - 1) some_word p.1))
             (length-set s.homes (place k) none) (λ j e. set_else s.homes (place k) j none e)
             (λ z. absurd (some_word z)) (λ _. set_here s.homes (place k) none (omega arith))
             (λ a e. absurd (gone s.homes (place k) (Some a) (omega arith) e)) (λ z. absurd (zeroth z)),
         (None, refl, (refl, zeroth), blank),
       )
-  takes_it reads s r id k w me (Some b) at up names small free here = let d : V = me.0 in let mine =
+  takes_it to_read s r id k w me (Some b) at up names small free here = let d : V = me.0 in let mine =
       r.each id d at in let std = mine.stands up in let deep = r.deep in let some_word = names_some d.number w names in
       let blank : get_or d.held k 0 ≡ 0 =
       dite (ℕ_discrete (get_or d.held k 0) 0) (λ z. z) (λ n. absurd (n (sym (mine.held k n).0 ∙ free))) in
@@ -304,10 +310,11 @@ module _ {K E : Type 0} (Z : Type 0) (hist : K → List E) (by : E → ℕ) (key
       let makes = std.4.makes in
       let legal : made_by by d.number (drop base (hist (arc_value b))) ≡ d.made =
       ap (λ h. made_by by d.number (drop base h)) now ∙ makes in (
-        seeing d k w (hist (arc_value b)),
+        seeing to_read d k w (hist (arc_value b)),
         takes (place k) (Some b),
         here,
-        lane_step s r id k w (pin_or d.pin (k + 1)) d.empty d.empty_lane d (hist (arc_value b))
+        lane_step s r id k w (pin_or d.pin (k + 1)) d.empty d.empty_lane (if to_read then d.reads + 1 else d.reads)
+            (writes_with to_read d k) d (hist (arc_value b))
             (set s.homes (place k) none) at up small (inl free) (λ _. names)
             record { begins = ([], sym now ∙ sym (append-nil (hist (arc_value b)))); makes = makes; inside = legal }
             (λ n. (
@@ -337,10 +344,12 @@ module _ {K E : Type 0} (Z : Type 0) (hist : K → List E) (by : E → ℕ) (key
         ),
       )
 
-  takes_lane : (reads : Bool) (slots id : ℕ) (me : Mine K E Z) (k w : ℕ) → me.0.stands ≡ true → Names me.0.number w → k < key.lanes
-      → Allows Rule slots id me (place k) (λ n. either (eqb n 0) w n) (took reads hist by k w me)
-  takes_lane reads slots id me k w up names small s r _ at _ = let n : ℕ = get_or s.words (place k) 0 in dite (ℕ_discrete n 0)
-      (λ z. let h = r.home k small z in let t = takes_it reads s r id k w me h.0 at up names small z h.1 in (
+  takes_lane : (to_read : Bool) (slots id : ℕ) (me : Mine K E Z) (k w : ℕ) → me.0.stands ≡ true → Names me.0.number w
+      → k < key.lanes
+      → Allows Rule slots id me (place k) (λ n. either (eqb n 0) w n) (took to_read hist by k w me)
+  takes_lane to_read slots id me k w up names small s r _ at _ = let n : ℕ = get_or s.words (place k) 0 in
+      dite (ℕ_discrete n 0)
+      (λ z. let h = r.home k small z in let t = takes_it to_read s r id k w me h.0 at up names small z h.1 in (
         t.0,
         t.1,
         t.2,
@@ -371,12 +380,12 @@ module _ {K E : Type 0} (Z : Type 0) (hist : K → List E) (by : E → ℕ) (key
       ))
 
   -- steps 1 and 3
-  pub can_take : (reads : Bool) (slots id : ℕ) (me : Mine K E Z) (i k w : ℕ) → i ≡ place k → me.0.stands ≡ true
+  pub can_take : (to_read : Bool) (slots id : ℕ) (me : Mine K E Z) (i k w : ℕ) → i ≡ place k → me.0.stands ≡ true
       → Names me.0.number w → k < key.lanes
-      → Allows Rule slots id me i (λ n. either (eqb n 0) w n) (took reads hist by (lane_at i) w me)
-  can_take reads slots id me i k w at up names small = subst
-      (λ (z : ℕ × ℕ). Allows Rule slots id me z.0 (λ n. either (eqb n 0) w n) (took reads hist by z.1 w me))
-      (λ j. (sym at j, sym (lane_of_place i k at) j)) (takes_lane reads slots id me k w up names small)
+      → Allows Rule slots id me i (λ n. either (eqb n 0) w n) (took to_read hist by (lane_at i) w me)
+  can_take to_read slots id me i k w at up names small = subst
+      (λ (z : ℕ × ℕ). Allows Rule slots id me z.0 (λ n. either (eqb n 0) w n) (took to_read hist by z.1 w me))
+      (λ j. (sym at j, sym (lane_of_place i k at) j)) (takes_lane to_read slots id me k w up names small)
 
   frees_it : (s : St) (r : Rule s) (id k pin : ℕ) (d : V) (x : Option (Arc K Z)) → get_elem? s.views id ≡ some d
       → d.stands ≡ true → get_or d.held k 0 ≢ 0 → IsShare hist d k x
@@ -390,8 +399,8 @@ module _ {K E : Type 0} (Z : Type 0) (hist : K → List E) (by : E → ℕ) (key
       let mine = r.each id d at in let std = mine.stands up in let deep = r.deep in let long = std.3 in
       let mark = mine.held k holds in let small : k < key.lanes = (let i = inside d.held k holds in omega arith) in
       let back = set_here s.homes (place k) (some x) (omega arith) in
-      lane_step s r id k 0 pin d.empty d.empty_lane d d.seen (set s.homes (place k) (some x)) at up small
-      (inr (subst (Names d.number) (sym mark.0) mark.2)) (λ z. absurd (z refl)) std.4
+      lane_step s r id k 0 pin d.empty d.empty_lane d.reads d.writes d d.seen (set s.homes (place k) (some x)) at up
+      small (inr (subst (Names d.number) (sym mark.0) mark.2)) (λ z. absurd (z refl)) std.4
       (λ n. let p = pinned n in let q = mine.pin (λ z. n (p.0 ∙ z)) in (
         q.0,
         λ z. q.1 (ap (λ (i : ℕ). get_or d.held (i - 1) 0) (sym p.0)

@@ -16,14 +16,14 @@ use Rattle.lane_lock.specs.declared.refusal.Busy.{Busy}
 use Rattle.lane_lock.specs.declared.table.View.{View}
 use Rattle.lane_lock.specs.Guards.{HasAllLanes}
 use Rattle.lane_lock.specs.Hands.{AllBack, Climbed, Lowered}
-use Rattle.lane_lock.specs.Outcomes.{OnlySees, KeepsHistory, KeepsLanes, RefusesWrite, Stops}
+use Rattle.lane_lock.specs.Outcomes.{HadNone, OnlySees, KeepsHistory, KeepsLanes, RefusesWrite, Stops}
 use Rattle.lane_lock.specs.Passes.{Owns}
 use Rattle.lane_lock.specs.Rule.{place}
 use Rattle.lane_lock.specs.Steps.{Mine}
 use Rattle.lane_lock.specs.Views.{freed, noted}
 use Rattle.lane_lock.proofs.Guards.{idle_if_free}
 use Rattle.lane_lock.proofs.Writes.{TookFirst, own_free, takes_all, no_pin, stopped_hand, stopped_lanes, stopped_long}
-use Rattle.lane_lock.proofs.Writes.{stopped_rest, stopped_met, sees_first}
+use Rattle.lane_lock.proofs.Writes.{stopped_had, stopped_rest, stopped_met, sees_first}
 
 -- the word of a writer
 pub word_some : (n : ℕ) → 2 * n + 2 ≢ 0
@@ -45,6 +45,12 @@ module _ {K E Z : Type 0} (m m' : Mine K E Z) (k w : ℕ) (now : m' ≡ (noted m
 
   pub noted_lanes : KeepsLanes m.0 m'.0
   noted_lanes i = ap (λ (u : Mine K E Z). get_or u.0.held i 0) now
+
+  pub noted_had : HadNone m.0 m'.0
+  noted_had = record {
+    reads = ap (λ (u : Mine K E Z). u.0.reads) now;
+    writes = ap (λ (u : Mine K E Z). u.0.writes) now;
+  }
 
 module _ {K E : Type 0} where
   -- what a pass with this seat keeps, where it has this number, lane, count and share
@@ -168,8 +174,14 @@ module _ {K A S E : Type 0} {g : kept.Ghosts K A S E} (lock : LaneLock K A S E) 
           sees_first g.history g.maker p.seat.me m' w a f l5.0 as_was.1 as_was.2 as_was.7 as_was.4 as_was.5
 
       pub stopped_refuses : b.lane < lock.lanes → RefusesWrite p.seat.me.0 l5.0 lock.lanes b
-      stopped_refuses lt =
-          (stopped_sees, lanes, lt, stopped_met g.history g.maker p.seat.me m' w a f m3 b s l4 P low l5 view)
+      stopped_refuses lt = (
+        stopped_sees,
+        lanes,
+        lt,
+        stopped_met g.history g.maker p.seat.me m' w a f m3 b s l4 P low l5 view,
+        stopped_had g.history g.maker p.seat.me m' w a f m3 b s l4 P low l5 view
+            (subst (λ (n : ℕ). b.lane < n) (sym all_held) lt),
+      )
 
 -- all lanes were put back, with the history h
 module _ {K A S E : Type 0} {g : kept.Ghosts K A S E} (p : Pass K A S E g) (m m' : Mine K E Global) (h : List E)
@@ -191,6 +203,12 @@ module _ {K A S E : Type 0} {g : kept.Ghosts K A S E} (p : Pass K A S E g) (m m'
 
   pub back_seen : m'.0.seen ≡ h
   back_seen = ap (λ (v : View E). v.seen) back.view
+
+  pub back_had : HadNone p.seat.me.0 m'.0
+  back_had = record {
+    reads = ap (λ (v : View E). v.reads) back.view ∙ ap (λ (v : View E). v.reads) was;
+    writes = ap (λ (v : View E). v.writes) back.view ∙ ap (λ (v : View E). v.writes) was;
+  }
 
   pub back_history : h ≡ p.seat.me.0.seen → KeepsHistory p.seat.me.0 m'.0
   back_history same = let all : h ≡ m.0.seen = same ∙ sym (ap (λ (v : View E). v.seen) was) in record {

@@ -17,7 +17,7 @@ use Rattle.lane_lock.specs.declared.table.View.{View}
 use Rattle.lane_lock.specs.Guards.{HasOneLane}
 use Rattle.lane_lock.specs.History.{StartsWith}
 use Rattle.lane_lock.specs.declared.refusal.NotNow.TheVariants.{Shared}
-use Rattle.lane_lock.specs.Outcomes.{KeepsHistory, KeepsLanes, OnlySees, RefusesRead}
+use Rattle.lane_lock.specs.Outcomes.{HadLane, KeepsHistory, KeepsLanes, OnlySees, RefusesRead}
 use Rattle.lane_lock.specs.Rule.{place}
 use Rattle.lane_lock.specs.Steps.{Mine, Offers, Takes}
 use Rattle.lane_lock.specs.Views.{IsLegal, found_empty, freed, holding, pin_or, seeing}
@@ -51,11 +51,11 @@ module _ {K A S E : Type 0} {g : kept.Ghosts K A S E} (p : Pass K A S E g) (w : 
 
   -- whose slot was empty
   module _ (top : m1.1 ≡ (place l, None) ∷ rest m1.1) (now : m2 ≡ (m1.0, (place l, None) ∷ rest m1.1)) where
-    empty : (m1.0 ≡ found_empty true (holding v l w) l) × (l ≢ 0)
+    empty : (m1.0 ≡ found_empty true (holding true v l w) l) × (l ≢ 0)
     empty = subst (λ (y : Option (Arc K Global)). Takes true g.history g.maker v l w y m1.0)
         (top_is (place l) x None m1.1 p.seat.me.1 (rest m1.1) hand top) takes
 
-    is : m2 ≡ (found_empty true (holding v l w) l, (place l, None) ∷ p.seat.me.1)
+    is : m2 ≡ (found_empty true (holding true v l w) l, (place l, None) ∷ p.seat.me.1)
     is = now ∙ (λ i. (empty.0 i, (place l, None) ∷ ap rest hand i))
 
     pub empty_pass : (m2.0.stands ≡ true) × (get_or m2.0.held l 0 ≢ 0)
@@ -68,7 +68,7 @@ module _ {K A S E : Type 0} {g : kept.Ghosts K A S E} (p : Pass K A S E g) (w : 
     empty_offer = (None, in_front _ _ _ (ap (λ (u : Mine K E Global). u.1) is), empty.1)
 
     module _ (m3 : Mine K E Global) (back : m3 ≡ (freed m2.0 l 0, rest m2.1)) where
-      was : m3 ≡ (freed (found_empty true (holding v l w) l) l 0, p.seat.me.1)
+      was : m3 ≡ (freed (found_empty true (holding true v l w) l) l 0, p.seat.me.1)
       was = back ∙ ap (λ (u : Mine K E Global). (freed u.0 l 0, rest u.1)) is
 
       lanes : KeepsLanes v m3.0
@@ -115,6 +115,10 @@ module _ {K A S E : Type 0} {g : kept.Ghosts K A S E} (p : Pass K A S E g) (w : 
           upper = empty.1;
         },
         ap (λ (u : Mine K E Global). u.0.busy) was,
+        record {
+          reads = ap (λ (u : Mine K E Global). u.0.reads) was;
+          writes = ap (λ (u : Mine K E Global). u.0.writes) was;
+        },
       )
 
   -- whose slot had a share
@@ -127,7 +131,7 @@ module _ {K A S E : Type 0} {g : kept.Ghosts K A S E} (p : Pass K A S E g) (w : 
     full = subst (λ (y : Option (Arc K Global)). Takes true g.history g.maker v l w y m1.0)
         (top_is (place l) x (Some a) m1.1 p.seat.me.1 (rest m1.1) hand top) takes
 
-    shows : m2 ≡ (seeing v l w seen, (place l, None) ∷ p.seat.me.1)
+    shows : m2 ≡ (seeing true v l w seen, (place l, None) ∷ p.seat.me.1)
     shows = now ∙ (λ i. (full.0 i, (place l, None) ∷ ap rest hand i))
 
     shown : m2.0.seen ≡ seen
@@ -150,6 +154,12 @@ module _ {K A S E : Type 0} {g : kept.Ghosts K A S E} (p : Pass K A S E g) (w : 
 
     pub reader_met : m2.0.busy ≡ v.busy
     reader_met = ap (λ (u : Mine K E Global). u.0.busy) shows
+
+    pub reader_had : HadLane v m2.0
+    reader_had = record {
+      reads = ap (λ (u : Mine K E Global). u.0.reads) shows;
+      writes = ap (λ (u : Mine K E Global). u.0.writes) shows;
+    }
 
     pub reader_has : HasOneLane g.history g.maker m2 p.lane (Some a)
     reader_has = record {

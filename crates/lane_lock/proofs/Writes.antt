@@ -1,7 +1,7 @@
 -- What a writer has after it took all lanes, or met one held, and after it put them back.
 use Rattle.std.proofs.Common.{append-nil, ◌++◌, ◌≡◌, ◌≢◌, inl, inr, ℕ, zero, suc, ◌+◌, ◌-◌, ◌<◌, ◌≤◌, true, false, List, []}
 use Rattle.std.proofs.Common.{◌∷◌, length, drop, get_or, set, length-set, sym, refl, ap, ◌∙◌, subst, arith, Option}
-use Rattle.std.proofs.Common.{Some, None, get_or-set_same, get_or-set_other}
+use Rattle.std.proofs.Common.{Some, None, get_or-set_same, get_or-set_other, cond, ◌==◌, eq-eqb, ne_eqb}
 use Rattle.std.proofs.Math.Seq.{drop-append_seam}
 use mathlib.Core.Logic.{dite}
 use native.Mathlib.Decide.{ℕ_discrete, dec_le}
@@ -13,7 +13,7 @@ use Rattle.lane_lock.specs.declared.refusal.Busy.{Busy}
 use Rattle.lane_lock.specs.Guards.{HasAllLanes}
 use Rattle.lane_lock.specs.Hands.{Shows, Anything, Stack, Climbed, Lowered, AllBack}
 use Rattle.lane_lock.specs.History.{StartsWith}
-use Rattle.lane_lock.specs.Outcomes.{Appends, KeepsLanes, MetHeld, OnlySees, Stops}
+use Rattle.lane_lock.specs.Outcomes.{Appends, HadAll, HadNone, KeepsLanes, MetHeld, OnlySees, Stops}
 use Rattle.lane_lock.specs.Rule.{Names}
 use Rattle.lane_lock.specs.Steps.{Mine, Takes, top_history}
 use Rattle.lane_lock.specs.Views.{freed, seeing, written, pin_or, IsLegal}
@@ -46,12 +46,20 @@ pin_there : (pin : ℕ) → pin_or pin 1 ≢ 0
 pin_there zero e = omega arith
 pin_there (suc n) e = omega arith
 
+-- the last lane counts
+pub last_counts : (k lanes n : ℕ) → k + 1 ≡ lanes → cond (k + 1 == lanes) (n + 1) n ≡ n + 1
+last_counts k lanes n e = ap (λ b. cond b (n + 1) n) (eq-eqb (k + 1) lanes e)
+
+-- a lane below it doesn't
+pub lower_counts_not : (k lanes n : ℕ) → k + 1 ≢ lanes → cond (k + 1 == lanes) (n + 1) n ≡ n
+lower_counts_not k lanes n e = ap (λ b. cond b (n + 1) n) (ne_eqb (k + 1) lanes e)
+
 module _ {K E Z : Type 0} (hist : K → List E) (by : E → ℕ) where
   -- lane 0 was taken, and its share taken out
   pub record TookFirst (m : Mine K E Z) (w : ℕ) (a : Arc K Z) (m' : Mine K E Z) : Type 0 where
-    pub is : m' ≡ (seeing m.0 0 w (hist (arc_value a)), (0, None) ∷ m.1)
+    pub is : m' ≡ (seeing false m.0 0 w (hist (arc_value a)), (0, None) ∷ m.1)
     pub later : StartsWith (hist (arc_value a)) m.0.seen
-    pub legal : IsLegal by (seeing m.0 0 w (hist (arc_value a)))
+    pub legal : IsLegal by (seeing false m.0 0 w (hist (arc_value a)))
     pub free : get_or m.0.held 0 0 ≡ 0
     pub opened : StartsWith (hist (arc_value a)) m.0.opening
 
@@ -109,6 +117,29 @@ module _ {K E Z : Type 0} (hist : K → List E) (by : E → ℕ) where
     pub climbed_met : (m'' : Mine K E Z) (n : ℕ) → Climbed hist m' w n m'' → m''.0.busy ≡ m.0.busy
     climbed_met m'' n c = ap (λ (v : View E). v.busy) c.view ∙ ap (λ (u : Mine K E Z). u.0.busy) f.is
 
+    first_long : length m'.0.held ≡ length m.0.held
+    first_long = ap (λ (u : Mine K E Z). length u.0.held) f.is ∙ length-set m.0.held 0 w
+
+    -- lane 0 counts where it is the last
+    first_counts : m'.0.writes ≡ cond (0 + 1 == length m.0.held) (m.0.writes + 1) m.0.writes
+    first_counts = ap (λ (u : Mine K E Z). u.0.writes) f.is
+
+    -- with the last lane it had all of them, once
+    pub climbed_had : (m'' : Mine K E Z) (lanes : ℕ) → Climbed hist m' w (lanes - 1) m'' → 0 < lanes
+        → length m.0.held ≡ lanes → HadAll m.0 m''.0
+    climbed_had m'' lanes c some long = record {
+      reads = ap (λ (v : View E). v.reads) c.view ∙ ap (λ (u : Mine K E Z). u.0.reads) f.is;
+      writes = dite (ℕ_discrete lanes 1)
+          (λ one. c.not_all (inl (omega (arith, one)))
+          ∙ (first_counts ∙ last_counts 0 (length m.0.held) m.0.writes (omega (arith, one, long))))
+          (λ more. c.all (omega (arith, some, more)) (count more)
+          ∙ ap (λ (n : ℕ). n + 1) (first_counts
+          ∙ lower_counts_not 0 (length m.0.held) m.0.writes (λ e. more (omega (arith, e, long)))));
+    }
+      where
+        count : lanes ≢ 1 → (lanes - 1) + 1 ≡ length m'.0.held
+        count more = omega (arith, some, long, first_long)
+
     -- the pass held none of the lanes that it took
     pub own_free : (m'' : Mine K E Z) (n own : ℕ) → Climbed hist m' w n m'' → own ≤ n → get_or m.0.held own 0 ≡ 0
     own_free m'' n own c le = dite (ℕ_discrete own 0) (λ e. ap (λ (k : ℕ). get_or m.0.held k 0) e ∙ f.free)
@@ -127,7 +158,8 @@ module _ {K E Z : Type 0} (hist : K → List E) (by : E → ℕ) where
               subst (λ (s : List E). StartsWith s m''.0.opening) (sym (same ∙ seen))
               (subst (StartsWith (hist (arc_value a))) (sym opening) f.opened);
           legal = subst (IsLegal by) (sym c.view) (subst
-              (λ (u : Mine K E Z). IsLegal by (record u.0 { held = m''.0.held })) (sym f.is) f.legal);
+              (λ (u : Mine K E Z). IsLegal by (record u.0 { held = m''.0.held; writes = m''.0.writes }))
+              (sym f.is) f.legal);
           stack = subst (λ (s : List E). Stack (Shows hist s) (lanes - 1) m''.1 ((0, None) ∷ [])) (sym same)
               (subst (Stack (Shows hist m'.0.seen) (lanes - 1) m''.1) (ap (λ (u : Mine K E Z). u.1) f.is
               ∙ ap (λ l. (0, None) ∷ l) none) c.stack);
@@ -140,20 +172,34 @@ module _ {K E Z : Type 0} (hist : K → List E) (by : E → ℕ) where
         }
 
     module _ (m'' : Mine K E Z) (b : Busy) (s : Stops hist m' w b m'') where
-      same_but_held : m''.0 ≡ record m'.0 { held = m''.0.held; busy = m''.0.busy; lane = m''.0.lane; word = m''.0.word }
+      same_but_held : m''.0 ≡ record m'.0 {
+        held = m''.0.held;
+        busy = m''.0.busy;
+        lane = m''.0.lane;
+        word = m''.0.word;
+        writes = m''.0.writes;
+      }
       same_but_held = ap (λ (u : Mine K E Z). u.0) s.noting
           ∙ ((λ i. record (s.climbed.view i) {
             held = s.before.0.held;
             busy = s.before.0.busy + 1;
             lane = b.lane;
             word = s.found;
+            writes = s.before.0.writes;
           })
           ∙ (λ i. record m'.0 {
             held = sym (ap (λ (u : Mine K E Z). u.0.held) s.noting) i;
             busy = sym (ap (λ (u : Mine K E Z). u.0.busy) s.noting) i;
             lane = sym (ap (λ (u : Mine K E Z). u.0.lane) s.noting) i;
             word = sym (ap (λ (u : Mine K E Z). u.0.word) s.noting) i;
+            writes = sym (ap (λ (u : Mine K E Z). u.0.writes) s.noting) i;
           }))
+
+      -- it never had all lanes
+      stopped_writes : b.lane < length m.0.held → m''.0.writes ≡ m.0.writes
+      stopped_writes lt = let above = s.above in ap (λ (u : Mine K E Z). u.0.writes) s.noting
+          ∙ (s.climbed.not_all (inr (omega (arith, lt, above, first_long))) ∙ (first_counts
+          ∙ lower_counts_not 0 (length m.0.held) m.0.writes (λ e. omega (arith, lt, above, e))))
 
       held_in : (k : ℕ) → get_or m''.0.held k 0 ≡ get_or s.before.0.held k 0
       held_in k = ap (λ (u : Mine K E Z). get_or u.0.held k 0) s.noting
@@ -220,7 +266,7 @@ module _ {K E Z : Type 0} (hist : K → List E) (by : E → ℕ) where
         pub stopped_long : (l5 : Mine K E Z) → l5.0 ≡ freed l4.0 0 0 → length l5.0.held ≡ length m.0.held
         stopped_long l5 now = ap (λ (v : View E). length v.held) now
             ∙ (length-set l4.0.held 0 0 ∙ (low.long ∙ (ap (λ (u : Mine K E Z). length u.0.held) s.noting
-            ∙ (s.climbed.long ∙ (ap (λ (u : Mine K E Z). length u.0.held) f.is ∙ length-set m.0.held 0 w)))))
+            ∙ (s.climbed.long ∙ first_long))))
 
         -- the rest of the view: what was seen is what lane 0 showed, and no lane pins it
         pub stopped_rest : (l5 : Mine K E Z) → l5.0 ≡ freed l4.0 0 0
@@ -244,6 +290,15 @@ module _ {K E Z : Type 0} (hist : K → List E) (by : E → ℕ) where
           ap (λ (v : View E). v.passes) now ∙ (ap (λ (v : View E). v.passes) low.view
               ∙ (ap (λ (v : View E). v.passes) same_but_held ∙ ap (λ (u : Mine K E Z). u.0.passes) f.is)),
         )
+
+        -- it had nothing
+        pub stopped_had : (l5 : Mine K E Z) → l5.0 ≡ freed l4.0 0 0 → b.lane < length m.0.held → HadNone m.0 l5.0
+        stopped_had l5 now lt = record {
+          reads = ap (λ (v : View E). v.reads) now ∙ (ap (λ (v : View E). v.reads) low.view
+              ∙ (ap (λ (v : View E). v.reads) same_but_held ∙ ap (λ (u : Mine K E Z). u.0.reads) f.is));
+          writes = ap (λ (v : View E). v.writes) now ∙ (ap (λ (v : View E). v.writes) low.view
+              ∙ stopped_writes lt);
+        }
 
         pub stopped_met : (l5 : Mine K E Z) → l5.0 ≡ freed l4.0 0 0 → MetHeld m.0 l5.0 b.lane b.holder.0
         stopped_met l5 now = let met = s.met in

@@ -1,5 +1,5 @@
 -- The slots that a writer has taken.
-use Rattle.std.specs.Prelude.{◌≡◌, ◌⊎◌, ℕ, ◌<◌, ◌≤◌, List, [], ◌∷◌, ◌++◌, length}
+use Rattle.std.specs.Prelude.{◌≡◌, ◌⊎◌, ℕ, ◌+◌, ◌<◌, ◌≤◌, List, [], ◌∷◌, ◌++◌, length}
 use Rattle.std.specs.Prelude.{drop, slice_index, Option, Some, None}
 use Rattle.std.specs.Prelude.{zero, suc}
 use Rattle.std.specs.Arc.{arc_value}
@@ -34,10 +34,13 @@ module _ {K Z : Type 0} where
     pub rests : (tl : List (ℕ × Option (Arc K Z))) → Stack Anything k tl [] → Stack Anything n (back ++ tl) []
 
 module _ {K E Z : Type 0} where
-  -- the pass has taken the lanes from 1 up to n by the word w, and what it knows is otherwise as in m
+  -- The pass has taken the lanes from 1 up to n by the word w. With the last lane it has had all lanes once more, and
+  -- not before. What it knows is otherwise as in m.
   pub record Climbed (hist : K → List E) (m : Mine K E Z) (w n : ℕ) (m' : Mine K E Z) : Type 0 where
     pub stack : Stack (Shows hist m.0.seen) n m'.1 m.1
-    pub view : m'.0 ≡ record m.0 { held = m'.0.held }
+    pub view : m'.0 ≡ record m.0 { held = m'.0.held; writes = m'.0.writes }
+    pub not_all : (n ≡ 0) ⊎ (n + 1 < length m.0.held) → m'.0.writes ≡ m.0.writes
+    pub all : 0 < n → n + 1 ≡ length m.0.held → m'.0.writes ≡ m.0.writes + 1
     pub long : length m'.0.held ≡ length m.0.held
     pub low : (k : ℕ) → 0 < k → k ≤ n → (slice_index m'.0.held k ≡ w) × (slice_index m.0.held k ≡ 0)
     pub else_same : (k : ℕ) → (k ≡ 0) ⊎ (n < k) → slice_index m'.0.held k ≡ slice_index m.0.held k

@@ -52,16 +52,38 @@ module _ {E : Type 0} where
     pub noted : w.empty_lane ≡ lane
     pub upper : lane ≢ 0
 
+  -- The pass never had a lane to read, nor all lanes to write: no take to read had a share, and none to write the last
+  -- lane.
+  pub record HadNone (v w : View E) : Type 0 where
+    pub reads : w.reads ≡ v.reads
+    pub writes : w.writes ≡ v.writes
+
+  -- once it had a lane to read, and never all lanes to write
+  pub record HadLane (v w : View E) : Type 0 where
+    pub reads : w.reads ≡ v.reads + 1
+    pub writes : w.writes ≡ v.writes
+
+  -- once it had all lanes to write, and never a lane to read
+  pub record HadAll (v w : View E) : Type 0 where
+    pub reads : w.reads ≡ v.reads
+    pub writes : w.writes ≡ v.writes + 1
+
+  -- it never had a lane to read, however often it had all lanes to write
+  abbrev pub HadNoLane : View E → View E → Type 0
+  HadNoLane v w = w.reads ≡ v.reads
+
   -- a read was refused: its lane was met held, or its slot empty
   abbrev pub RefusesRead : View E → View E → ℕ → NotNow → Type 0
   RefusesRead v w lane (refusal.Busy b) =
       KeepsHistory v w × KeepsLanes v w × (b.lane ≡ lane) × MetHeld v w lane b.holder.0
-      × (w.empty ≡ v.empty)
-  RefusesRead v w lane Shared = KeepsHistory v w × KeepsLanes v w × MetEmpty v w lane × (w.busy ≡ v.busy)
+      × (w.empty ≡ v.empty) × HadNone v w
+  RefusesRead v w lane Shared =
+      KeepsHistory v w × KeepsLanes v w × MetEmpty v w lane × (w.busy ≡ v.busy) × HadNone v w
 
   -- a write was refused: a lane was held, and all lanes that were taken are home again
   abbrev pub RefusesWrite : View E → View E → ℕ → Busy → Type 0
-  RefusesWrite v w lanes b = OnlySees v w × KeepsLanes v w × (b.lane < lanes) × MetHeld v w b.lane b.holder.0
+  RefusesWrite v w lanes b =
+      OnlySees v w × KeepsLanes v w × (b.lane < lanes) × MetHeld v w b.lane b.holder.0 × HadNone v w
 
   -- the pass has seen these records, and nothing else has changed
   abbrev pub Learns : View E → List E → View E → Type 0

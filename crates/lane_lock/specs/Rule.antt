@@ -95,6 +95,8 @@ newcomer p opening passes lanes others = record {
   word = 0;
   empty = 0;
   empty_lane = 0;
+  reads = 0;
+  writes = 0;
 }
 
 -- the view of the first seat: the last pass, and all others before it

@@ -23,17 +23,17 @@ module _ {K E Z : Type 0} where
   -- opening one and is legal for the pass; if a lane pins what it has seen, it has seen it all before. Lane 0 always has
   -- one.
   abbrev pub Takes : Bool → (K → List E) → (E → ℕ) → View E → ℕ → ℕ → Option (Arc K Z) → View E → Type 0
-  Takes reads hist by v k w None v' = (v' ≡ found_empty reads (holding v k w) k) × (k ≢ 0)
-  Takes reads hist by v k w (Some a) v' =
-      (v' ≡ seeing v k w (hist (arc_value a))) × StartsWith (hist (arc_value a)) v.seen × IsLegal by v'
+  Takes to_read hist by v k w None v' = (v' ≡ found_empty to_read (holding to_read v k w) k) × (k ≢ 0)
+  Takes to_read hist by v k w (Some a) v' =
+      (v' ≡ seeing to_read v k w (hist (arc_value a))) × StartsWith (hist (arc_value a)) v.seen × IsLegal by v'
       × (v.pin ≢ 0 → hist (arc_value a) ≡ v.seen) × StartsWith (hist (arc_value a)) v.opening
 
   -- Taking lane k by the word w, to read or to write. At 0 it was at home, and the pass has it and what its slot had; at
   -- another word it was held, and the pass notes that. The word names a pass of the lock, and this pass only if it held
   -- the lane.
   abbrev pub took : Bool → (K → List E) → (E → ℕ) → ℕ → ℕ → Mine K E Z → ℕ → Mine K E Z → Type 0
-  took reads hist by k w m r m' =
-      (r ≡ 0 → (x : Option (Arc K Z)) × (m'.1 ≡ (place k, x) ∷ m.1) × Takes reads hist by m.0 k w x m'.0
+  took to_read hist by k w m r m' =
+      (r ≡ 0 → (x : Option (Arc K Z)) × (m'.1 ≡ (place k, x) ∷ m.1) × Takes to_read hist by m.0 k w x m'.0
       × (slice_index m.0.held k ≡ 0))
       × (r ≢ 0 → (m' ≡ (noted m.0 k r, m.1)) × ((q : ℕ) × (q < 1024) × Names q r)
       × (Names m.0.number r → slice_index m.0.held k ≡ r) × ((q : ℕ) → Names q r → q < m.0.passes))

@@ -1,5 +1,5 @@
 -- What a step makes of the view of the seat that makes it.
-use Rattle.std.specs.Prelude.{◌≡◌, ◌≢◌, ℕ, ◌+◌, Bool, true, false, if◌then◌else◌, List, []}
+use Rattle.std.specs.Prelude.{◌≡◌, ◌≢◌, ℕ, ◌+◌, ◌==◌, Bool, true, false, if◌then◌else◌, List, []}
 use Rattle.std.specs.Prelude.{◌∷◌, ◌++◌, length, drop, replicate, slice_index}
 use Rattle.std.specs.Prelude.{slice_set, zero, suc}
 use mathlib.Core.Option.{some}
@@ -14,13 +14,24 @@ pin_or zero n = n
 pin_or (suc m) n = suc m
 
 module _ {E : Type 0} where
-  -- the view, holding lane k by the word w
-  abbrev pub holding : View E → ℕ → ℕ → View E
-  holding v k w = record v { held = slice_set v.held k w }
+  -- how often a take to write had the last lane, once lane k was taken too, to read or to write
+  abbrev pub writes_with : Bool → View E → ℕ → ℕ
+  writes_with to_read v k =
+      if to_read then v.writes else (if k + 1 == length v.held then v.writes + 1 else v.writes)
 
-  -- the same, which has seen the history h
-  abbrev pub seeing : View E → ℕ → ℕ → List E → View E
-  seeing v k w h = record v { held = slice_set v.held k w; seen = h; pin = pin_or v.pin (k + 1) }
+  -- the view, holding lane k by the word w, to read or to write
+  abbrev pub holding : Bool → View E → ℕ → ℕ → View E
+  holding to_read v k w = record v { held = slice_set v.held k w; writes = writes_with to_read v k }
+
+  -- the same, which has seen the history h; a reader has what it came for
+  abbrev pub seeing : Bool → View E → ℕ → ℕ → List E → View E
+  seeing to_read v k w h = record v {
+    held = slice_set v.held k w;
+    seen = h;
+    pin = pin_or v.pin (k + 1);
+    reads = if to_read then v.reads + 1 else v.reads;
+    writes = writes_with to_read v k;
+  }
 
   -- the view after lane k was put back, pinned by pin
   abbrev pub freed : View E → ℕ → ℕ → View E
@@ -37,9 +48,9 @@ module _ {E : Type 0} where
 
   -- lane k was taken and its slot was empty, which a reader notes
   abbrev pub found_empty : Bool → View E → ℕ → View E
-  found_empty reads v k = record v {
-    empty = if reads then v.empty + 1 else v.empty;
-    empty_lane = if reads then k else v.empty_lane;
+  found_empty to_read v k = record v {
+    empty = if to_read then v.empty + 1 else v.empty;
+    empty_lane = if to_read then k else v.empty_lane;
   }
 
   -- of the records after the opening that the view has seen, those of its pass are those that it made
@@ -71,6 +82,8 @@ module _ {E : Type 0} where
     word = 0;
     empty = 0;
     empty_lane = 0;
+    reads = 0;
+    writes = 0;
   }
 
   -- the first of these passes, alone in a view
@@ -91,6 +104,8 @@ module _ {E : Type 0} where
     word = 0;
     empty = 0;
     empty_lane = 0;
+    reads = 0;
+    writes = 0;
   }
 
   -- the view without its first further pass, and that pass alone

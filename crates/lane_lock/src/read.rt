@@ -1,7 +1,7 @@
 //! Taking a lane to read, and putting it back.
 
 ghost use Rattle.std.specs.Prelude.{ℕ, ◌<◌, IfErr, OnOk};
-ghost use Rattle.lane_lock.specs.Outcomes.{OnlySees, KeepsHistory, MetNone, RefusesRead};
+ghost use Rattle.lane_lock.specs.Outcomes.{OnlySees, KeepsHistory, MetNone, HadLane, HadNone, RefusesRead};
 ghost use Rattle.lane_lock.specs.Passes.{Owns, SamePass, IsReading, view_of};
 ghost use Rattle.lane_lock.specs.Rule.{Names};
 ghost use Rattle.lane_lock.specs.Views.{IsBlank};
@@ -29,6 +29,7 @@ impl<K: Kept> LaneLock<K> {
         ensures sees { OnlySees (view_of pass.old) (view_of pass.new) }
         ensures reading { OnOk result (IsReading pass.new) }
         ensures met { OnOk result (MetNone (view_of pass.old) (view_of pass.new)) }
+        ensures had { OnOk result (HadLane (view_of pass.old) (view_of pass.new)) }
         ensures refused { IfErr result (λ e. RefusesRead (view_of pass.old) (view_of pass.new) pass.old.lane e) }
     {
         let lanes = &self.table.shared;
@@ -60,6 +61,7 @@ impl<K: Kept> LaneLock<K> {
         ensures same { SamePass pass.old pass.new }
         ensures history { KeepsHistory (view_of pass.old) (view_of pass.new) }
         ensures met { MetNone (view_of pass.old) (view_of pass.new) }
+        ensures had { HadNone (view_of pass.old) (view_of pass.new) }
         ensures blank { IsBlank (view_of pass.new) }
     {
         let share = pass.share.take();

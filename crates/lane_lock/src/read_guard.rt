@@ -18,7 +18,7 @@ pub struct ReadGuard<'a, K: Kept> {
 impl<K: Kept> Pass<K> {
     ghost use Rattle.std.specs.Borrow.{sem};
     ghost use Rattle.std.specs.Prelude.{◌≡◌, IfOk};
-    ghost use Rattle.lane_lock.specs.Outcomes.{MetNone, OnlySees};
+    ghost use Rattle.lane_lock.specs.Outcomes.{HadLane, MetNone, OnlySees};
     ghost use Rattle.lane_lock.specs.Passes.{Owns, SamePass, IsReading, view_of};
     ghost use Rattle.lane_lock.specs.ReadGuards.{RestsUnlessReading};
 
@@ -33,6 +33,7 @@ impl<K: Kept> Pass<K> {
         ensures reading { IfOk result (λ g. IsReading g.pass.now) }
         ensures sees { IfOk result (λ g. OnlySees (view_of self.old) (view_of g.pass.now)) }
         ensures met { IfOk result (λ g. MetNone (view_of self.old) (view_of g.pass.now)) }
+        ensures had { IfOk result (λ g. HadLane (view_of self.old) (view_of g.pass.now)) }
     {
         lock.start_read(self)?;
         Ok(ReadGuard { lock, pass: self })
@@ -42,7 +43,7 @@ impl<K: Kept> Pass<K> {
 impl<'a, K: Kept> ReadGuard<'a, K> {
     ghost use Rattle.std.specs.Prelude.{◌≡◌, length};
     ghost use Rattle.lane_lock.specs.History.{Legal, StartsWith};
-    ghost use Rattle.lane_lock.specs.Outcomes.{KeepsHistory, MetNone};
+    ghost use Rattle.lane_lock.specs.Outcomes.{HadNone, KeepsHistory, MetNone};
     ghost use Rattle.lane_lock.specs.Passes.{SamePass, IsReading, ShowsValue, view_of, number_of, opening_of};
     ghost use Rattle.lane_lock.specs.Views.{IsBlank};
 
@@ -69,6 +70,7 @@ impl<'a, K: Kept> ReadGuard<'a, K> {
         ensures same_pass { SamePass self.entry.pass.now self.exit.1.0.now }
         ensures history { KeepsHistory (view_of self.entry.pass.now) (view_of self.exit.1.0.now) }
         ensures met { MetNone (view_of self.entry.pass.now) (view_of self.exit.1.0.now) }
+        ensures had { HadNone (view_of self.entry.pass.now) (view_of self.exit.1.0.now) }
         ensures blank { IsBlank (view_of self.exit.1.0.now) }
     {
         let ReadGuard { lock, pass } = self;
@@ -84,7 +86,7 @@ impl<'a, K: Kept> ReadGuard<'a, K> {
 }
 
 impl<'a, K: Kept> Drop for ReadGuard<'a, K> {
-    ghost use Rattle.lane_lock.specs.Outcomes.{KeepsHistory, MetNone};
+    ghost use Rattle.lane_lock.specs.Outcomes.{HadNone, KeepsHistory, MetNone};
     ghost use Rattle.lane_lock.specs.Passes.{SamePass, IsReading, view_of};
     ghost use Rattle.lane_lock.specs.Views.{IsBlank};
 
@@ -93,6 +95,7 @@ impl<'a, K: Kept> Drop for ReadGuard<'a, K> {
         ensures same_pass { SamePass self.entry.pass.now self.exit.1.0.now }
         ensures history { KeepsHistory (view_of self.entry.pass.now) (view_of self.exit.1.0.now) }
         ensures met { MetNone (view_of self.entry.pass.now) (view_of self.exit.1.0.now) }
+        ensures had { HadNone (view_of self.entry.pass.now) (view_of self.exit.1.0.now) }
         ensures blank { IsBlank (view_of self.exit.1.0.now) }
     {
         let ReadGuard { lock, pass } = self;

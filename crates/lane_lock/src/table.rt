@@ -47,6 +47,10 @@ pub struct View<E> {
     /// How many takes to read found a slot empty, and the last such lane.
     pub empty: u64,
     pub empty_lane: u64,
+    /// How many takes to read had a share.
+    pub reads: u64,
+    /// How many takes to write had the last lane. A writer takes the lanes upwards, so it then has all of them.
+    pub writes: u64,
 }
 
 /// What the rule reads: the number of lanes and of passes, and the opening value.

@@ -6,7 +6,7 @@ ghost use Rattle.std.specs.Prelude.{OnOk, OnErr};
 ghost use Rattle.std.specs.Arc.{arc_value};
 ghost use Rattle.atomic_table.specs.Table.{rest};
 ghost use Rattle.lane_lock.specs.Hands.{AllBack, Anything, Stack};
-ghost use Rattle.lane_lock.specs.Outcomes.{OnlySees, KeepsHistory, MetNone, RefusesWrite};
+ghost use Rattle.lane_lock.specs.Outcomes.{OnlySees, KeepsHistory, MetNone, HadAll, HadNone, RefusesWrite};
 ghost use Rattle.lane_lock.specs.Passes.{Owns, SamePass, IsWriting, MayWant, ShowsValue, Commits, view_of};
 ghost use Rattle.lane_lock.specs.Rule.{place};
 ghost use Rattle.lane_lock.specs.Views.{IsBlank};
@@ -112,6 +112,7 @@ impl<K: Kept> LaneLock<K> {
         ensures sees { OnlySees (view_of pass.old) (view_of pass.new) }
         ensures writing { OnOk result (IsWriting self.now pass.new) }
         ensures met { OnOk result (MetNone (view_of pass.old) (view_of pass.new)) }
+        ensures had { OnOk result (HadAll (view_of pass.old) (view_of pass.new)) }
         ensures refused { IfErr result (λ b. RefusesWrite (view_of pass.old) (view_of pass.new) self.now.lanes b) }
     {
         let lanes = &self.table.shared;
@@ -147,6 +148,7 @@ impl<K: Kept> LaneLock<K> {
         ensures same { SamePass pass.old pass.new }
         ensures history { KeepsHistory (view_of pass.old) (view_of pass.new) }
         ensures met { MetNone (view_of pass.old) (view_of pass.new) }
+        ensures had { HadNone (view_of pass.old) (view_of pass.new) }
         ensures blank { IsBlank (view_of pass.new) }
     {
         let lanes = &self.table.shared;
@@ -171,6 +173,7 @@ impl<K: Kept> LaneLock<K> {
             × MayWant K.wants value act.now error) }
         ensures err { OnErr result (KeepsHistory (view_of pass.old) (view_of pass.new)) }
         ensures met { MetNone (view_of pass.old) (view_of pass.new) }
+        ensures had { HadNone (view_of pass.old) (view_of pass.new) }
     {
         let lanes = &self.table.shared;
         let Some(mut share) = pass.share.take() else {

@@ -17,7 +17,7 @@ pub struct WriteGuard<'a, K: Kept> {
 impl<K: Kept> Pass<K> {
     ghost use Rattle.std.specs.Borrow.{sem};
     ghost use Rattle.std.specs.Prelude.{◌≡◌, IfOk};
-    ghost use Rattle.lane_lock.specs.Outcomes.{MetNone, OnlySees};
+    ghost use Rattle.lane_lock.specs.Outcomes.{HadAll, MetNone, OnlySees};
     ghost use Rattle.lane_lock.specs.Passes.{Owns, SamePass, IsWriting, view_of};
     ghost use Rattle.lane_lock.specs.WriteGuards.{RestsUnlessWriting};
 
@@ -32,6 +32,7 @@ impl<K: Kept> Pass<K> {
         ensures writing { IfOk result (λ g. IsWriting lock.now g.pass.now) }
         ensures sees { IfOk result (λ g. OnlySees (view_of self.old) (view_of g.pass.now)) }
         ensures met { IfOk result (λ g. MetNone (view_of self.old) (view_of g.pass.now)) }
+        ensures had { IfOk result (λ g. HadAll (view_of self.old) (view_of g.pass.now)) }
     {
         lock.start_write(self)?;
         Ok(WriteGuard { lock, pass: self })
@@ -41,7 +42,7 @@ impl<K: Kept> Pass<K> {
 impl<'a, K: Kept> WriteGuard<'a, K> {
     ghost use Rattle.std.specs.Prelude.{◌≡◌, length, IfOk, IfErr, OnErr};
     ghost use Rattle.lane_lock.specs.History.{Legal, StartsWith};
-    ghost use Rattle.lane_lock.specs.Outcomes.{KeepsHistory, MetNone};
+    ghost use Rattle.lane_lock.specs.Outcomes.{HadNone, KeepsHistory, MetNone};
     ghost use Rattle.lane_lock.specs.Passes.{
       SamePass,
       IsWriting,
@@ -84,6 +85,7 @@ impl<'a, K: Kept> WriteGuard<'a, K> {
             × MayWant K.wants value act.now error) }
         ensures err { OnErr result (KeepsHistory (view_of self.entry.pass.now) (view_of self.exit.1.0.now)) }
         ensures met { MetNone (view_of self.entry.pass.now) (view_of self.exit.1.0.now) }
+        ensures had { HadNone (view_of self.entry.pass.now) (view_of self.exit.1.0.now) }
     {
         let WriteGuard { lock, pass } = self;
         lock.finish_write(pass, act)
@@ -95,6 +97,7 @@ impl<'a, K: Kept> WriteGuard<'a, K> {
         ensures same_pass { SamePass self.entry.pass.now self.exit.1.0.now }
         ensures history { KeepsHistory (view_of self.entry.pass.now) (view_of self.exit.1.0.now) }
         ensures met { MetNone (view_of self.entry.pass.now) (view_of self.exit.1.0.now) }
+        ensures had { HadNone (view_of self.entry.pass.now) (view_of self.exit.1.0.now) }
         ensures blank { IsBlank (view_of self.exit.1.0.now) }
     {
         let WriteGuard { lock, pass } = self;
@@ -110,7 +113,7 @@ impl<'a, K: Kept> WriteGuard<'a, K> {
 }
 
 impl<'a, K: Kept> Drop for WriteGuard<'a, K> {
-    ghost use Rattle.lane_lock.specs.Outcomes.{KeepsHistory, MetNone};
+    ghost use Rattle.lane_lock.specs.Outcomes.{HadNone, KeepsHistory, MetNone};
     ghost use Rattle.lane_lock.specs.Passes.{SamePass, IsWriting, view_of};
     ghost use Rattle.lane_lock.specs.Views.{IsBlank};
 
@@ -119,6 +122,7 @@ impl<'a, K: Kept> Drop for WriteGuard<'a, K> {
         ensures same_pass { SamePass self.entry.pass.now self.exit.1.0.now }
         ensures history { KeepsHistory (view_of self.entry.pass.now) (view_of self.exit.1.0.now) }
         ensures met { MetNone (view_of self.entry.pass.now) (view_of self.exit.1.0.now) }
+        ensures had { HadNone (view_of self.entry.pass.now) (view_of self.exit.1.0.now) }
         ensures blank { IsBlank (view_of self.exit.1.0.now) }
     {
         let WriteGuard { lock, pass } = self;

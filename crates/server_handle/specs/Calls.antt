@@ -15,7 +15,7 @@ use Rattle.iofd_words.specs.declared.query.Translation.{Translation}
 use Rattle.iofd_words.specs.declared.refusal.NoMemory.{NoMemory}
 use Rattle.iommufd_core.specs.declared.apply.Stamp.{Stamp}
 use Rattle.journal_audit_writing.specs.declared.whole.JournalError.{JournalError}
-use Rattle.lane_lock.specs.Outcomes.{MetNone, OnlySees, RefusesRead}
+use Rattle.lane_lock.specs.Outcomes.{HadAll, HadLane, MetNone, OnlySees, RefusesRead}
 use Rattle.lane_lock.specs.Passes.{lane_of, lanes_of, view_of}
 use Rattle.lane_lock.specs.declared.refusal.NotNow.{NotNow}
 use Rattle.guarded_core.specs.Guarded.{RefusesCommit}
@@ -43,6 +43,7 @@ pub record Calls (event : Event Global) (c : Caller) (told : Result Stamp (TryEr
     pub same : SameCaller c d
     pub made : IfOk told (λ stamp. Makes (settings_of (arc_value c.server)) c.pass (act_of event) stamp d.pass)
     pub met : IfOk told (λ _. MetNone (view_of c.pass) (view_of d.pass))
+    pub had : IfOk told (λ _. HadAll (view_of c.pass) (view_of d.pass))
     pub refused : IfErr told (RefusesCommit (lanes_of (arc_value c.server).lock) (view_of c.pass) (view_of d.pass))
 
 -- the question is answered after all records that the pass has then seen; or its lane couldn't be had
@@ -51,6 +52,7 @@ pub record Looks (query : Query) (c : Caller) (told : Result Answer NotNow) (d :
   pub sees : OnlySees (view_of c.pass) (view_of d.pass)
   pub answer : IfOk told (λ answer. IsAnswered (settings_of (arc_value c.server)) d.pass query answer)
   pub met : IfOk told (λ _. MetNone (view_of c.pass) (view_of d.pass))
+  pub had : IfOk told (λ _. HadLane (view_of c.pass) (view_of d.pass))
   pub refused : IfErr told (RefusesRead (view_of c.pass) (view_of d.pass) (lane_of c.pass))
 
 -- the access object's notices, or why there are none, are told after all records that the pass has then seen; or its
@@ -82,6 +84,7 @@ pub record TakesTurn (turn : Turn) (p : Device) (told : Result Stamp (TryError N
   pub made : IfOk told (λ stamp. Makes (settings_of (arc_value p.server)) p.port.pass
       (act_of (turn_event p.port.device turn)) stamp q.port.pass)
   pub met : IfOk told (λ _. MetNone (view_of p.port.pass) (view_of q.port.pass))
+  pub had : IfOk told (λ _. HadAll (view_of p.port.pass) (view_of q.port.pass))
   pub refused : IfErr told (RefusesCommit (lanes_of (arc_value p.server).lock) (view_of p.port.pass)
       (view_of q.port.pass))
   pub empty : KeepsNothing q.port

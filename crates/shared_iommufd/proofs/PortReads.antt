@@ -11,10 +11,10 @@ use Rattle.iofd_words.specs.declared.numbers.DeviceNo.{DeviceNo}
 use Rattle.iofd_words.specs.declared.numbers.Iova.{Iova}
 use Rattle.iofd_words.specs.declared.query.Answer.{Answer}
 use Rattle.iofd_words.specs.declared.query.Answer.TheVariants as answer
-use Rattle.lane_lock.specs.Outcomes.{OnlySees}
+use Rattle.lane_lock.specs.Outcomes.{HadNone, OnlySees}
 use Rattle.lane_lock.specs.Passes.{SamePass, lane_of, view_of}
 use Rattle.lane_lock.specs.declared.refusal.NotNow.{NotNow}
-use Rattle.lane_lock.proofs.Retries.{sees_then}
+use Rattle.lane_lock.proofs.Retries.{lane_then, none_had, none_then, read_had, sees_then}
 use Rattle.port_cache.specs.Cached.{Leaves, Translations, compared}
 use Rattle.guarded_core.specs.Caches.{found}
 use Rattle.guarded_core.specs.Passes.{CoreGhosts, CorePass}
@@ -38,7 +38,7 @@ use Rattle.guarded_core.specs.declared.try_error.TryError.{TryError}
 use Rattle.guarded_core.specs.declared.try_error.TryError.TheVariants as tried
 use Rattle.shared_iommufd.proofs.DeviceAnswers.{ComesOfRead, comes_of_read}
 use Rattle.guarded_core.proofs.Guards.{refused_sees}
-use Rattle.shared_iommufd.proofs.Passed.{bytes_more, none_passed, one_passed, passed_later}
+use Rattle.shared_iommufd.proofs.Passed.{bytes_more, none_passed, one_passed, passed_later, standing_more}
 
 -- bytes that are written behind those that stand in place of the old ones
 put_behind : (new old bytes : List ℕ) (done k : ℕ) → length new ≡ done → k ≡ length bytes
@@ -78,10 +78,12 @@ module _ {A : Type 0} {g : CoreGhosts A} where
   }
 
   read_sooner : (settings : Settings) (device : DeviceNo) (most address len : ℕ) (o p : Standing A g) (told : Answer)
-      (q : Standing A g) → OnlySees (view_of o.pass) (view_of p.pass) → KeepsSame o p
-      → IsReadSo settings device most address len p told q → IsReadSo settings device most address len o told q
-  read_sooner settings device most address len o p told q sees same read = record {
+      (q : Standing A g) → OnlySees (view_of o.pass) (view_of p.pass) → HadNone (view_of o.pass) (view_of p.pass)
+      → KeepsSame o p → IsReadSo settings device most address len p told q
+      → IsReadSo settings device most address len o told q
+  read_sooner settings device most address len o p told q sees had same read = record {
     sees = sees_then (view_of o.pass) (view_of p.pass) (view_of q.pass) sees read.sees;
+    had = lane_then (view_of o.pass) (view_of p.pass) (view_of q.pass) had read.had;
     finds = read.finds;
     tells = tells_sooner settings device address len o p read.finds told q.pass same read.tells;
     turns = read.turns;
@@ -95,6 +97,7 @@ module _ {A : Type 0} {g : CoreGhosts A} (settings : Settings) (device : DeviceN
   none_read = record {
     pieces = [];
     passed = none_passed (IsReadPiece settings device most) address (length old) first;
+    had = none_had (view_of first.pass);
     buffer = refl;
   }
 
@@ -129,7 +132,7 @@ module _ {A : Type 0} {g : CoreGhosts A} (settings : Settings) (device : DeviceN
       one_passed (IsReadPiece settings device most) address (length old) done first p pieces piece has.passed
       (subst (λ (n : ℕ). done < n) long less) (count ∙ (fits ∙ ap (λ n. piece_len (address + done) (n - done)) long)) same record {
         read = read_sooner settings device most (address + done) (length bytes) (standing_after first pieces) p
-            (answer.Read bytes) q has.passed.sees has.passed.keeps
+            (answer.Read bytes) q has.passed.sees has.had has.passed.keeps
             (subst (λ (c : (DeviceNo × ℕ) × ℕ). IsReadSo settings c.0.0 c.0.1 (address + done) c.1 p (answer.Read bytes) q)
             (λ i. (its i, sym part i)) read);
         at = refl;
@@ -138,6 +141,8 @@ module _ {A : Type 0} {g : CoreGhosts A} (settings : Settings) (device : DeviceN
       record {
         pieces = pieces ++ piece ∷ [];
         passed = passed;
+        had = subst (λ (r : Standing A g). HadNone (view_of r.pass) (view_of q.pass))
+            (sym (standing_more first pieces piece)) (none_had (view_of q.pass));
         buffer = ap (λ l. put_mid done k l bytes) has.buffer
             ∙ (put_behind (bytes_of pieces) old bytes done k has.passed.count (same_len ∙ sym count) passed.within
             ∙ ap (λ l. l ++ drop (done + length bytes) old) (sym (bytes_more pieces piece)));
@@ -146,12 +151,13 @@ module _ {A : Type 0} {g : CoreGhosts A} (settings : Settings) (device : DeviceN
   -- the pass has only seen more since
   pub read_later : (done : ℕ) (p q : Standing A g) (buffer : List ℕ)
       → HasRead settings device most address old first done p buffer → SamePass p.pass q.pass
-      → OnlySees (view_of p.pass) (view_of q.pass) → KeepsSame p q
+      → OnlySees (view_of p.pass) (view_of q.pass) → HadNone (view_of p.pass) (view_of q.pass) → KeepsSame p q
       → HasRead settings device most address old first done q buffer
-  read_later done p q buffer has same sees keeps = record {
+  read_later done p q buffer has same sees had keeps = record {
     pieces = has.pieces;
     passed = passed_later (IsReadPiece settings device most) address (length old) done first p q has.pieces has.passed
         same sees keeps;
+    had = none_then (view_of (standing_after first has.pieces).pass) (view_of p.pass) (view_of q.pass) has.had had;
     buffer = has.buffer;
   }
 
@@ -223,7 +229,8 @@ module _ {A : Type 0} {g : CoreGhosts A} (settings : Settings) (of at : DeviceNo
       subst (λ (c : TryError PortCause). DeniesRead settings at.0 at.1 (address + error.done) len stops.before c q) is
       stops.denied in
       read_later settings at.0 at.1 address old first error.done stops.before q new stops.read stops.same
-      (refused_sees (view_of stops.before.pass) (view_of q.pass) (lane_of stops.before.pass) refused denied.0) denied.1
+      (refused_sees (view_of stops.before.pass) (view_of q.pass) (lane_of stops.before.pass) refused denied.0)
+      (read_had (view_of stops.before.pass) (view_of q.pass) (lane_of stops.before.pass) refused denied.0) denied.1
 
 module _ {A : Type 0} {g : CoreGhosts A} where
   -- what the answer to a device's read may be

@@ -20,7 +20,7 @@ use Rattle.iofd_words.specs.declared.reply.Reply.TheVariants as reply
 use Rattle.iommufd_core.specs.History.{History}
 use Rattle.iommufd_core.specs.declared.apply.Stamp.{Stamp}
 use Rattle.lane_lock.specs.History.{made_by}
-use Rattle.lane_lock.specs.Outcomes.{OnlySees}
+use Rattle.lane_lock.specs.Outcomes.{HadNoLane, OnlySees}
 use Rattle.lane_lock.specs.Passes.{SamePass, view_of}
 use Rattle.lane_lock.specs.declared.refusal.NotNow.{NotNow}
 use Rattle.guarded_core.specs.Applied.{IsApplied}
@@ -48,15 +48,16 @@ use Rattle.guarded_core.specs.declared.try_error.TryError.{TryError}
 use Rattle.guarded_core.specs.declared.try_error.TryError.TheVariants as tried
 use Rattle.guarded_core.specs.declared.kept_core.Entry.TheVariants as entry
 use Rattle.shared_iommufd.proofs.DeviceAnswers.{ComesOfWrite, comes_of_write}
-use Rattle.guarded_core.proofs.Guards.{commit_sees}
-use Rattle.shared_iommufd.proofs.Passed.{bytes_more, none_passed, one_passed, passed_later, place_more}
+use Rattle.guarded_core.proofs.Guards.{commit_had, commit_sees}
+use Rattle.shared_iommufd.proofs.Passed.{bytes_more, none_passed, one_passed, passed_later, place_more, standing_more}
 use Rattle.guarded_core.proofs.Entered.{starts_so}
 
 module _ {A : Type 0} {g : CoreGhosts A} where
   -- what was made once the pass had seen more was made by it as it was before
   abbrev pub makes_sooner : (settings : Settings) (o p q : CorePass A g) (act : Act A) (stamp : Stamp) → SamePass o p
-      → OnlySees (view_of o) (view_of p) → Makes settings p act stamp q → Makes settings o act stamp q
-  makes_sooner settings o p q act stamp same sees m = record {
+      → OnlySees (view_of o) (view_of p) → HadNoLane (view_of o) (view_of p) → Makes settings p act stamp q
+      → Makes settings o act stamp q
+  makes_sooner settings o p q act stamp same sees had m = record {
     before = m.before;
     made = m.made;
     later = starts_so (told (history_of settings m.before)) (view_of p).seen (view_of o).seen m.later sees.later;
@@ -67,17 +68,18 @@ module _ {A : Type 0} {g : CoreGhosts A} where
     seen = m.seen;
     own = m.own ∙ ap (λ l. l ++ entry.Made m.made ∷ []) sees.made;
     home = m.home;
+    had = m.had ∙ had;
   }
 
   -- what is written by a port that keeps the same is written so
   tells_sooner : (settings : Settings) (device : DeviceNo) (address : ℕ) (bytes : List ℕ) (o p : Standing A g)
       (finds : Found) (stamp : Stamp) (pass : CorePass A g) → SamePass o.pass p.pass
-      → OnlySees (view_of o.pass) (view_of p.pass) → KeepsSame o p
+      → OnlySees (view_of o.pass) (view_of p.pass) → HadNoLane (view_of o.pass) (view_of p.pass) → KeepsSame o p
       → TellsWrite settings device address bytes p finds stamp pass
       → TellsWrite settings device address bytes o finds stamp pass
-  tells_sooner settings device address bytes o p finds stamp pass is_pass sees same tells = record {
+  tells_sooner settings device address bytes o p finds stamp pass is_pass sees had same tells = record {
     makes = makes_sooner settings o.pass p.pass pass (write_by device address bytes finds.translation) stamp is_pass sees
-        tells.makes;
+        had tells.makes;
     turns = tells.turns;
     found = tells.found ∙ (λ i. found settings tells.makes.before device (same.turns i) (same.kept i) address Write);
     passes = tells.passes;
@@ -85,13 +87,13 @@ module _ {A : Type 0} {g : CoreGhosts A} where
 
   written_sooner : (settings : Settings) (device : DeviceNo) (most address : ℕ) (bytes : List ℕ) (o p : Standing A g)
       (told : Reply) (place : Option ℕ) (q : Standing A g) → SamePass o.pass p.pass
-      → OnlySees (view_of o.pass) (view_of p.pass) → KeepsSame o p
+      → OnlySees (view_of o.pass) (view_of p.pass) → HadNoLane (view_of o.pass) (view_of p.pass) → KeepsSame o p
       → IsWrittenSo settings device most address bytes p told place q
       → IsWrittenSo settings device most address bytes o told place q
-  written_sooner settings device most address bytes o p told place q is_pass sees same written = record {
+  written_sooner settings device most address bytes o p told place q is_pass sees had same written = record {
     finds = written.finds;
     stamp = written.stamp;
-    tells = tells_sooner settings device address bytes o p written.finds written.stamp q.pass is_pass sees same
+    tells = tells_sooner settings device address bytes o p written.finds written.stamp q.pass is_pass sees had same
         written.tells;
     reply = written.reply;
     at = written.at;
@@ -131,6 +133,7 @@ module _ {A : Type 0} {g : CoreGhosts A} (settings : Settings) (device : DeviceN
   none_written = record {
     pieces = [];
     passed = none_passed (IsWrittenPiece settings device most) address (length bytes) first;
+    had = refl;
     taken = refl;
     ends = refl;
   }
@@ -158,11 +161,13 @@ module _ {A : Type 0} {g : CoreGhosts A} (settings : Settings) (device : DeviceN
       (count ∙ fits) same record {
         frame = frame;
         written = written_sooner settings device most (address + done) part (standing_after first pieces) p
-            (reply.Passed frame) last q has.passed.same has.passed.sees has.passed.keeps written;
+            (reply.Passed frame) last q has.passed.same has.passed.sees has.had has.passed.keeps written;
       } in
       subst (λ (n : ℕ). HasWritten settings device most address bytes first (done + n) q last) count record {
         pieces = pieces ++ piece ∷ [];
         passed = passed;
+        had = subst (λ (r : Standing A g). HadNoLane (view_of r.pass) (view_of q.pass))
+            (sym (standing_more first pieces piece)) refl;
         taken = bytes_more pieces piece
             ∙ (ap (λ l. l ++ part) has.taken
             ∙ (sym (take-add done len bytes) ∙ ap (λ n. take (done + n) bytes) (sym count)));
@@ -172,12 +177,13 @@ module _ {A : Type 0} {g : CoreGhosts A} (settings : Settings) (device : DeviceN
   -- the pass has only seen more since
   pub written_later : (done : ℕ) (p q : Standing A g) (last : Option ℕ)
       → HasWritten settings device most address bytes first done p last → SamePass p.pass q.pass
-      → OnlySees (view_of p.pass) (view_of q.pass) → KeepsSame p q
+      → OnlySees (view_of p.pass) (view_of q.pass) → HadNoLane (view_of p.pass) (view_of q.pass) → KeepsSame p q
       → HasWritten settings device most address bytes first done q last
-  written_later done p q last has same sees keeps = record {
+  written_later done p q last has same sees had keeps = record {
     pieces = has.pieces;
     passed = passed_later (IsWrittenPiece settings device most) address (length bytes) done first p q has.pieces
         has.passed same sees keeps;
+    had = had ∙ has.had;
     taken = has.taken;
     ends = has.ends;
   }
@@ -235,7 +241,8 @@ module _ {A : Type 0} {g : CoreGhosts A} (settings : Settings) (lanes : ℕ) (of
       stops.place c q last) is stops.denied in
       subst (λ (l : Option ℕ). HasWritten settings at.0 at.1 address bytes first error.done q l) (sym denied.2)
       (written_later settings at.0 at.1 address bytes first error.done stops.before q stops.place stops.written stops.same
-      (commit_sees lanes (view_of stops.before.pass) (view_of q.pass) refused denied.0) denied.1)
+      (commit_sees lanes (view_of stops.before.pass) (view_of q.pass) refused denied.0)
+      (commit_had lanes (view_of stops.before.pass) (view_of q.pass) refused denied.0) denied.1)
 
 module _ {A : Type 0} {g : CoreGhosts A} where
   -- what had come so far when the port stood as p has come so far when it stands as q

@@ -1,5 +1,5 @@
 -- A command for which there was no memory before any lane was asked for.
-use Rattle.std.proofs.Common.{◌≡◌, ℕ, Err, List, refl, subst}
+use Rattle.std.proofs.Common.{◌≡◌, ℕ, Err, List, inl, refl, subst}
 use Rattle.iofd_words.specs.declared.call_error.CallError.{CallError}
 use Rattle.iofd_words.specs.declared.call_error.CallError.TheVariants as failed
 use Rattle.iofd_words.specs.declared.refusal.NoMemory.{NoMemory}
@@ -10,6 +10,7 @@ use Rattle.ioctl_codec.specs.declared.events.Asked.{Asked}
 use Rattle.ioctl_codec.specs.declared.events.Asked.TheVariants as asks
 use Rattle.lane_lock.specs.Passes.{view_of}
 use Rattle.lane_lock.specs.Views.{IsBlank}
+use Rattle.lane_lock.proofs.Retries.{none_had}
 use Rattle.guarded_core.specs.Passes.{CoreGhosts, CorePass}
 use Rattle.guarded_core.specs.declared.try_error.TryError.TheVariants as tried
 use Rattle.shared_iommufd.specs.Ioctls.{RefusesAsked}
@@ -28,6 +29,6 @@ module _ {A : Type 0} {g : CoreGhosts A} where
   -- whatever it asks for isn't carried out, and the pass is as it was
   pub asked_in_vain : (lanes lane : ℕ) (what : Asked A) (p : CorePass A g) → IsBlank (view_of p) → (error : NoMemory)
       → RefusesAsked lanes lane what (view_of p) (view_of p) (tried.Call error)
-  asked_in_vain lanes lane (asks.Event e) p blank error = (sees_same p, refl, blank)
-  asked_in_vain lanes lane (asks.Ranges request) p blank error = (sees_same p, refl)
-  asked_in_vain lanes lane (asks.Dirty request) p blank error = (sees_same p, refl)
+  asked_in_vain lanes lane (asks.Event e) p blank error = (sees_same p, refl, blank, inl (none_had (view_of p)))
+  asked_in_vain lanes lane (asks.Ranges request) p blank error = (sees_same p, refl, inl (none_had (view_of p)))
+  asked_in_vain lanes lane (asks.Dirty request) p blank error = (sees_same p, refl, inl (none_had (view_of p)))

@@ -19,7 +19,7 @@ use Rattle.iommufd_core.specs.declared.apply.Stamp.{Stamp}
 use Rattle.iova_ranges.specs.declared.range_set.RangeSet.{RangeSet}
 use Rattle.journal_audit_writing.specs.declared.whole.JournalError.{JournalError}
 use Rattle.lane_lock.specs.History.{Legal, StartsWith, made_by}
-use Rattle.lane_lock.specs.Outcomes.{OnlySees}
+use Rattle.lane_lock.specs.Outcomes.{HadLane, HadNoLane, OnlySees}
 use Rattle.lane_lock.specs.Passes.{SamePass, number_of, view_of}
 use Rattle.lane_lock.specs.Views.{IsBlank}
 use Rattle.server_state.specs.Choice.{IsLooked}
@@ -118,12 +118,13 @@ module _ {A : Type 0} {g : CoreGhosts A} where
       → (view_of q).seen ≡ told h
       → Legal maker_of (length (told o)) (told h) (number_of q) (view_of q).seen (view_of q).made
       → IsBlank (view_of q)
-      → OnlySees (view_of p) (view_of q) → TellsRanges Z h file request.ioas ranges
+      → OnlySees (view_of p) (view_of q) → HadLane (view_of p) (view_of q) → TellsRanges Z h file request.ioas ranges
       → AnswersSet Z request ranges answer → IsTold settings p file request answer q
-  ranges_told settings o h p q file request ranges answer opened fresh starts run seen legal home sees tells answers =
+  ranges_told settings o h p q file request ranges answer opened fresh starts run seen legal home sees had tells answers =
       let e : h.settings ≡ settings = same_settings h o starts ∙ opened in
       record {
         sees = sees;
+        had = had;
         records = h.records;
         seen = has_seen settings o h q opened fresh starts run seen legal home;
         answers = subst (λ (x : History A). AnswersRanges x file request answer) (is_history h settings e)
@@ -138,9 +139,9 @@ module _ {A : Type 0} {g : CoreGhosts A} where
       → made_by maker_of (number_of q) (drop (length (told o)) (told old)) ≡ (view_of q).made
       → IsApplied (record { 0 = number_of q }) act stamp old new → (view_of r).seen ≡ told new
       → (view_of r).seen ≡ told old ++ x ∷ [] → (view_of r).made ≡ (view_of q).made ++ x ∷ []
-      → IsBlank (view_of r)
+      → IsBlank (view_of r) → HadNoLane (view_of p) (view_of r)
       → (m : Makes settings p act stamp r) × (m.before ≡ old.records)
-  makes_from settings o old new p q r act stamp x opened fresh starts same sees later mine applied seen grown own home =
+  makes_from settings o old new p q r act stamp x opened fresh starts same sees later mine applied seen grown own home had =
       let e : old.settings ≡ settings = same_settings old o starts ∙ opened in
       let was : old ≡ history_of settings old.records = is_history old settings e in
       let made = applied.one_more.made in
@@ -162,6 +163,7 @@ module _ {A : Type 0} {g : CoreGhosts A} where
           seen = seen ∙ ap (told {A = A}) is;
           own = own ∙ (λ i. sees.made i ++ last i);
           home = home;
+          had = had;
         },
         refl,
       )
@@ -172,11 +174,11 @@ module _ {A : Type 0} {g : CoreGhosts A} where
       → made_by maker_of (number_of q) (drop (length (told o)) (told old)) ≡ (view_of q).made
       → IsApplied (record { 0 = number_of q }) act stamp old new → (view_of r).seen ≡ told new
       → (view_of r).seen ≡ told old ++ x ∷ [] → (view_of r).made ≡ (view_of q).made ++ x ∷ []
-      → IsBlank (view_of r)
+      → IsBlank (view_of r) → HadNoLane (view_of p) (view_of r)
       → Makes settings p act stamp r
-  makes settings o old new p q r act stamp x opened fresh starts same sees later mine applied seen grown own home =
+  makes settings o old new p q r act stamp x opened fresh starts same sees later mine applied seen grown own home had =
       (makes_from settings o old new p q r act stamp x opened fresh starts same sees later mine applied seen grown own
-      home).0
+      home had).0
 
   -- a pass is itself, and has seen what it has seen
   pub same_pass : (p : CorePass A g) → SamePass p p

@@ -32,7 +32,7 @@ use Rattle.ioctl_codec.specs.declared.events.Asked.TheVariants as asks
 use Rattle.iommufd_core.specs.History.{History, world}
 use Rattle.iommufd_core.specs.declared.apply.Stamp.{Stamp}
 use Rattle.iova_ranges.specs.declared.range_set.RangeSet.{RangeSet}
-use Rattle.lane_lock.specs.Outcomes.{MetNone, OnlySees, RefusesRead}
+use Rattle.lane_lock.specs.Outcomes.{HadLane, HadNone, MetNone, OnlySees, RefusesRead}
 use Rattle.lane_lock.specs.Passes.{view_of}
 use Rattle.lane_lock.specs.declared.table.View.{View}
 use Rattle.guarded_core.specs.Entries.{history_of}
@@ -96,18 +96,20 @@ module _ {A : Type 0} where
       pub makes : Makes settings p (record { event = e; via = None }) stamp q
       pub answers : AnswersEvent e stamp.reply answer
 
-    -- no record was made; the ranges are those after all records that the pass has then seen
+    -- no record was made, and the pass had its lane once; the ranges are those after all records that it has then seen
     pub record IsTold (settings : Settings) (p : CorePass A g) (file : FileNo) (request : RangesRequest)
         (answer : IoctlAnswer A) (q : CorePass A g) : Type 0 where
       pub sees : OnlySees (view_of p) (view_of q)
+      pub had : HadLane (view_of p) (view_of q)
       pub records : List (Record A)
       pub seen : HasSeen settings q records
       pub answers : AnswersRanges (history_of settings records) file request answer
 
-    -- no record was made; the report is of all records that the pass has then seen
+    -- no record was made, and the pass had its lane once; the report is of all records that it has then seen
     pub record IsReported (settings : Settings) (p : CorePass A g) (file : FileNo) (request : DirtyRequest)
         (answer : IoctlAnswer A) (q : CorePass A g) : Type 0 where
       pub sees : OnlySees (view_of p) (view_of q)
+      pub had : HadLane (view_of p) (view_of q)
       pub told : Answer
       pub answered : IsAnswered settings q (query.Dirty file request) told
       pub answers : AnswersReport request told answer
@@ -133,10 +135,11 @@ module _ {A : Type 0} where
         ⊎ ((command : Command A) × Spells number bytes command
         × IsServed settings p file (asked file command) answer q)
 
--- no look was had: the lane of the pass was held or empty; or it was met neither way, and memory was wanting
+-- no look was had: the lane of the pass was held or empty; or it was met neither way, had at most once, and memory was
+-- wanting
 abbrev pub RefusesLook : {E : Type 0} → ℕ → View E → View E → TryError NoMemory → Type 0
 RefusesLook lane v w (tried.NotNow refused) = RefusesRead v w lane refused
-RefusesLook lane v w (tried.Call no_memory) = OnlySees v w × MetNone v w
+RefusesLook lane v w (tried.Call no_memory) = OnlySees v w × MetNone v w × (HadNone v w ⊎ HadLane v w)
 
 -- What a command asks for isn't carried out by a call of this lane, where so many lanes are, and nothing was made: an
 -- event is refused as a commit is, a question as a look is.

@@ -6,6 +6,7 @@ use Rattle.iofd_words.specs.declared.event.Event.{Event}
 use Rattle.iofd_words.specs.declared.record.Record.{Record}
 use Rattle.iommufd_core.specs.declared.apply.Stamp.{Stamp}
 use Rattle.lane_lock.specs.History.{StartsWith, made_by}
+use Rattle.lane_lock.specs.Outcomes.{HadNoLane}
 use Rattle.lane_lock.specs.Passes.{number_of, view_of}
 use Rattle.lane_lock.specs.Views.{IsBlank}
 use Rattle.guarded_core.specs.Applied.{IsApplied}
@@ -26,7 +27,7 @@ module _ {A : Type 0} {g : CoreGhosts A} where
   -- The pass made one record: of this act, with its own number, and with the reply and at the place of the stamp. It
   -- stands behind all records that there were, which are all that the pass had seen and maybe more, and of which those
   -- of the pass are just those that it had made. It is the last record that the pass has seen now, and the pass holds no
-  -- lane.
+  -- lane; meanwhile it never had one to read.
   pub record Makes (settings : Settings) (p : CorePass A g) (act : Act A) (stamp : Stamp) (q : CorePass A g)
       : Type 0 where
     pub before : List (Record A)
@@ -38,3 +39,4 @@ module _ {A : Type 0} {g : CoreGhosts A} where
     pub seen : (view_of q).seen ≡ told (history_of settings (before ++ made ∷ []))
     pub own : (view_of q).made ≡ (view_of p).made ++ entry.Made made ∷ []
     pub home : IsBlank (view_of q)
+    pub had : HadNoLane (view_of p) (view_of q)

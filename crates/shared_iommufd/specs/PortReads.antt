@@ -11,12 +11,12 @@ use Rattle.iofd_words.specs.declared.query.Answer.{Answer}
 use Rattle.iofd_words.specs.declared.query.Answer.TheVariants as answer
 use Rattle.iofd_words.specs.declared.query.Query.TheVariants as query
 use Rattle.iofd_words.specs.declared.record.Record.{Record}
-use Rattle.lane_lock.specs.Outcomes.{OnlySees, RefusesRead}
+use Rattle.lane_lock.specs.Outcomes.{HadLane, HadNone, OnlySees, RefusesRead}
 use Rattle.lane_lock.specs.Passes.{SamePass, lane_of, view_of}
 use Rattle.port_cache.specs.Cached.{Leaves, compared}
 use Rattle.guarded_core.specs.Caches.{ReadBy, found}
 use Rattle.guarded_core.specs.Passes.{CoreGhosts, CorePass}
-use Rattle.shared_iommufd.specs.Pieces.{HavePassed, Piece, bytes_of, piece_len}
+use Rattle.shared_iommufd.specs.Pieces.{HavePassed, Piece, bytes_of, piece_len, standing_after}
 use Rattle.shared_iommufd.specs.Ports.{KeepsSame, Standing}
 use Rattle.shared_iommufd.specs.Seen.{HasSeen}
 use Rattle.port_cache.specs.declared.cache.Found.{Found}
@@ -55,11 +55,12 @@ module _ {A : Type 0} {g : CoreGhosts A} where
     pub by : ReadBy settings records device (record { 0 = address }) len finds.translation told
 
   -- The device's read of so many bytes at the address is answered so, after all records that the pass has then seen;
-  -- these begin with what it had seen before, and it made none. The port, which may keep so many pages, keeps what the
-  -- read found.
+  -- these begin with what it had seen before, and it made none and had its lane once. The port, which may keep so many
+  -- pages, keeps what the read found.
   pub record IsReadSo (settings : Settings) (device : DeviceNo) (most address len : ℕ) (p : Standing A g) (told : Answer)
       (q : Standing A g) : Type 0 where
     pub sees : OnlySees (view_of p.pass) (view_of q.pass)
+    pub had : HadLane (view_of p.pass) (view_of q.pass)
     pub finds : Found
     pub tells : TellsRead settings device address len p finds told q.pass
     pub turns : q.turns ≡ finds.turns
@@ -71,11 +72,13 @@ module _ {A : Type 0} {g : CoreGhosts A} where
     pub read : IsReadSo settings device most address (length piece.bytes) p (answer.Read piece.bytes) piece.after
     pub at : piece.at ≡ None
 
-  -- so many bytes have been read, and stand in the buffer in place of the old ones; the others are the old ones
+  -- So many bytes have been read, and stand in the buffer in place of the old ones; the others are the old ones. Since
+  -- the last of them the pass had no lane.
   pub record HasRead (settings : Settings) (device : DeviceNo) (most address : ℕ) (old : List ℕ) (p : Standing A g)
       (done : ℕ) (q : Standing A g) (new : List ℕ) : Type 0 where
     pub pieces : List (Piece A g)
     pub passed : HavePassed (IsReadPiece settings device most) address (length old) p pieces done q
+    pub had : HadNone (view_of (standing_after p pieces).pass) (view_of q.pass)
     pub buffer : new ≡ bytes_of pieces ++ drop done old
 
   -- why a piece isn't read: the answer that it got is no read; or its lane couldn't be had, and nothing was seen

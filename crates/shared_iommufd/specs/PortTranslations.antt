@@ -8,7 +8,7 @@ use Rattle.iofd_words.specs.declared.fault.AccessKind.{AccessKind}
 use Rattle.iofd_words.specs.declared.numbers.DeviceNo.{DeviceNo}
 use Rattle.iofd_words.specs.declared.query.Translation.{Translation}
 use Rattle.iofd_words.specs.declared.record.Record.{Record}
-use Rattle.lane_lock.specs.Outcomes.{MetNone, OnlySees, RefusesRead}
+use Rattle.lane_lock.specs.Outcomes.{HadLane, MetNone, OnlySees, RefusesRead}
 use Rattle.lane_lock.specs.Passes.{lane_of, view_of}
 use Rattle.lane_lock.specs.declared.refusal.NotNow.{NotNow}
 use Rattle.port_cache.specs.Cached.{Leaves, compared}
@@ -32,10 +32,12 @@ module _ {A : Type 0} {g : CoreGhosts A} where
     pub backed : IfSome finds.translation (IsGood (history_of settings records) device (page_of address))
 
   -- The device's page at the address is translated so, after all records that the pass has then seen; these begin with
-  -- what it had seen before, and it made none. The port, which may keep so many pages, keeps what was found.
+  -- what it had seen before, and it made none and had its lane once. The port, which may keep so many pages, keeps what was
+  -- found.
   pub record IsTranslatedSo (settings : Settings) (device : DeviceNo) (most address : ℕ) (kind : AccessKind)
       (p : Standing A g) (told : Option Translation) (q : Standing A g) : Type 0 where
     pub sees : OnlySees (view_of p.pass) (view_of q.pass)
+    pub had : HadLane (view_of p.pass) (view_of q.pass)
     pub finds : Found
     pub tells : TellsTranslation settings device address kind p finds q.pass
     pub found : told ≡ finds.translation

@@ -1,5 +1,5 @@
 -- A port's writes.
-use Rattle.std.specs.Prelude.{◌≡◌, ℕ, ◌+◌, ◌-◌, ◌<◌, Option, Some, None, Result, Ok, Err, List, length, take, drop}
+use Rattle.std.specs.Prelude.{◌≡◌, ◌⊎◌, ℕ, ◌+◌, ◌-◌, ◌<◌, Option, Some, None, Result, Ok, Err, List, length, take, drop}
 use Rattle.std.specs.Prelude.{IfSome}
 use Rattle.iofd_words.specs.Pages.{page_of}
 use Rattle.iofd_words.specs.Settings.{Settings}
@@ -10,14 +10,14 @@ use Rattle.iofd_words.specs.declared.numbers.FrameNo.{FrameNo}
 use Rattle.iofd_words.specs.declared.reply.Reply.{Reply}
 use Rattle.iofd_words.specs.declared.reply.Reply.TheVariants as reply
 use Rattle.iommufd_core.specs.declared.apply.Stamp.{Stamp}
-use Rattle.lane_lock.specs.Outcomes.{MetNone, OnlySees}
+use Rattle.lane_lock.specs.Outcomes.{HadAll, HadNoLane, HadNone, MetNone, OnlySees}
 use Rattle.lane_lock.specs.Passes.{SamePass, view_of}
 use Rattle.port_cache.specs.Cached.{Leaves, compared}
 use Rattle.guarded_core.specs.Caches.{found, write_by}
 use Rattle.guarded_core.specs.Guarded.{RefusesCommit}
 use Rattle.shared_iommufd.specs.Made.{Makes}
 use Rattle.guarded_core.specs.Passes.{CoreGhosts, CorePass}
-use Rattle.shared_iommufd.specs.Pieces.{HavePassed, Piece, bytes_of, last_place, piece_len}
+use Rattle.shared_iommufd.specs.Pieces.{HavePassed, Piece, bytes_of, last_place, piece_len, standing_after}
 use Rattle.shared_iommufd.specs.Ports.{KeepsSame, Standing}
 use Rattle.port_cache.specs.declared.cache.Found.{Found}
 use Rattle.shared_iommufd.specs.declared.error.PortCause.{PortCause}
@@ -54,16 +54,19 @@ module _ {A : Type 0} {g : CoreGhosts A} where
     pub frame : FrameNo
     pub written : IsWrittenSo settings device most address piece.bytes p (reply.Passed frame) piece.at piece.after
 
-  -- so many of the bytes have been written, and the last record of these pieces stands at this place
+  -- So many of the bytes have been written, and the last record of these pieces stands at this place. Since then the pass
+  -- had no lane to read.
   pub record HasWritten (settings : Settings) (device : DeviceNo) (most address : ℕ) (bytes : List ℕ) (p : Standing A g)
       (done : ℕ) (q : Standing A g) (last : Option ℕ) : Type 0 where
     pub pieces : List (Piece A g)
     pub passed : HavePassed (IsWrittenPiece settings device most) address (length bytes) p pieces done q
+    pub had : HadNoLane (view_of (standing_after p pieces).pass) (view_of q.pass)
     pub taken : bytes_of pieces ≡ take done bytes
     pub ends : last ≡ last_place None pieces
 
   -- Why a piece isn't written: the reply to its record says so; or it made none, for want of memory while no lane was met
-  -- held, or since the lanes couldn't be had, of which there are so many; then the port keeps what it kept.
+  -- held and all were had at most once, or since the lanes couldn't be had, of which there are so many; then the port keeps
+  -- what it kept.
   abbrev pub DeniesWrite : Settings → ℕ → DeviceNo → ℕ → ℕ → List ℕ → Standing A g → Option ℕ → TryError PortCause
       → Standing A g → Option ℕ → Type 0
   DeniesWrite settings lanes device most address bytes p before (tried.Call (cause.Refused refusal)) q last =
@@ -73,6 +76,7 @@ module _ {A : Type 0} {g : CoreGhosts A} where
   DeniesWrite settings lanes device most address bytes p before (tried.Call (cause.Memory no_memory)) q last =
       OnlySees (view_of p.pass) (view_of q.pass) × KeepsSame p q × (last ≡ before)
       × MetNone (view_of p.pass) (view_of q.pass)
+      × (HadNone (view_of p.pass) (view_of q.pass) ⊎ HadAll (view_of p.pass) (view_of q.pass))
   DeniesWrite settings lanes device most address bytes p before (tried.NotNow refused) q last =
       RefusesCommit lanes (view_of p.pass) (view_of q.pass) (tried.NotNow refused) × KeepsSame p q × (last ≡ before)
 

@@ -12,7 +12,7 @@ use Rattle.iofd_words.specs.declared.query.Query.{Query}
 use Rattle.iofd_words.specs.declared.record.Record.{Record}
 use Rattle.journal_audit_writing.specs.declared.whole.JournalError.{JournalError}
 use Rattle.lane_lock.specs.History.{Legal}
-use Rattle.lane_lock.specs.Outcomes.{MetNone, RefusesRead}
+use Rattle.lane_lock.specs.Outcomes.{HadLane, MetNone, RefusesRead}
 use Rattle.lane_lock.specs.Passes.{lane_of, number_of, view_of}
 use Rattle.lane_lock.specs.Views.{IsBlank}
 use Rattle.server_state.specs.Choice.{IsLooked}
@@ -44,14 +44,15 @@ module _ {A : Type 0} {g : CoreGhosts A} where
     pub seen : HasSeen settings p records
     pub tells : TellsNotices (history_of settings records) file access answer
 
-  -- the same of a question that doesn't wait: no lane was met held; or the lane of the pass was held or empty, the pass
-  -- has seen no more, and that isn't told as a failure
+  -- the same of a question that doesn't wait: no lane was met held, and the pass had its lane once; or that was held or
+  -- empty, the pass has seen no more, and that isn't told as a failure
   abbrev pub AreTriedNotices : Settings → CorePass A g → CorePass A g → FileNo → ObjId
       → Result (Vec Bounds A) (TryError CallError) → Type 0
   AreTriedNotices settings p q file access (Ok spans) =
-      AreNotices settings q file access (Ok spans) × MetNone (view_of p) (view_of q)
+      AreNotices settings q file access (Ok spans) × MetNone (view_of p) (view_of q) × HadLane (view_of p) (view_of q)
   AreTriedNotices settings p q file access (Err (tried.Call failed)) =
       AreNotices settings q file access (Err failed) × MetNone (view_of p) (view_of q)
+      × HadLane (view_of p) (view_of q)
   AreTriedNotices settings p q file access (Err (tried.NotNow refused)) =
       RefusesRead (view_of p) (view_of q) (lane_of p) refused
 
@@ -65,7 +66,8 @@ module _ {A : Type 0} {g : CoreGhosts A} where
   -- the same of a question that doesn't wait
   abbrev pub IsTriedJournalOf : Settings → CorePass A g → CorePass A g → Result (Vec ℕ A) (TryError JournalError)
       → Type 0
-  IsTriedJournalOf settings p q (Ok bytes) = IsJournalOf settings q (Ok bytes) × MetNone (view_of p) (view_of q)
+  IsTriedJournalOf settings p q (Ok bytes) =
+      IsJournalOf settings q (Ok bytes) × MetNone (view_of p) (view_of q) × HadLane (view_of p) (view_of q)
   IsTriedJournalOf settings p q (Err (tried.Call failed)) =
-      IsJournalOf settings q (Err failed) × MetNone (view_of p) (view_of q)
+      IsJournalOf settings q (Err failed) × MetNone (view_of p) (view_of q) × HadLane (view_of p) (view_of q)
   IsTriedJournalOf settings p q (Err (tried.NotNow refused)) = RefusesRead (view_of p) (view_of q) (lane_of p) refused

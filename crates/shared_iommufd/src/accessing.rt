@@ -17,7 +17,7 @@ use std::alloc::Allocator;
 
 impl<A: Allocator + Copy> Server<A> {
     ghost use Rattle.std.specs.Prelude.{IfErr, IfOk};
-    ghost use Rattle.lane_lock.specs.Outcomes.{MetNone, OnlySees, RefusesRead};
+    ghost use Rattle.lane_lock.specs.Outcomes.{HadLane, MetNone, OnlySees, RefusesRead};
     ghost use Rattle.lane_lock.specs.Passes.{SamePass, lane_of, lanes_of, view_of};
     ghost use Rattle.guarded_core.specs.Caches.{MayKeep};
     ghost use Rattle.guarded_core.specs.Entries.{told};
@@ -44,6 +44,7 @@ impl<A: Allocator + Copy> Server<A> {
         ensures tells { IfOk result (λ r. TellsRead (settings_of self.now) device iova.0 len (stands_so pass.old cache.now)
             r.0 r.1 pass.new) }
         ensures met { IfOk result (λ _. MetNone (view_of pass.old) (view_of pass.new)) }
+        ensures had { IfOk result (λ _. HadLane (view_of pass.old) (view_of pass.new)) }
         ensures refused { IfErr result (RefusesRead (view_of pass.old) (view_of pass.new) (lane_of pass.old)) }
     {
         let read = PortRead {
@@ -73,6 +74,7 @@ impl<A: Allocator + Copy> Server<A> {
         ensures tells { IfOk result (λ found. TellsTranslation (settings_of self.now) device iova.0 kind
             (stands_so pass.old cache.now) found pass.new) }
         ensures met { IfOk result (λ _. MetNone (view_of pass.old) (view_of pass.new)) }
+        ensures had { IfOk result (λ _. HadLane (view_of pass.old) (view_of pass.new)) }
         ensures refused { IfErr result (RefusesRead (view_of pass.old) (view_of pass.new) (lane_of pass.old)) }
     {
         let walk = PortWalk {

@@ -10,7 +10,7 @@ use std::sync::Wait;
 
 impl<A: Allocator + Copy> Server<A> {
     ghost use Rattle.std.specs.Prelude.{◌≡◌, false, IfErr, IfOk, OnErr, None};
-    ghost use Rattle.lane_lock.specs.Outcomes.{MetNone, OnlySees};
+    ghost use Rattle.lane_lock.specs.Outcomes.{HadAll, HadNoLane, MetNone, OnlySees};
     ghost use Rattle.lane_lock.specs.Passes.{SamePass, lanes_of, view_of};
     ghost use Rattle.lane_lock.specs.Views.{IsBlank};
     ghost use Rattle.guarded_core.specs.Guarded.{RefusesCommit};
@@ -32,6 +32,7 @@ impl<A: Allocator + Copy> Server<A> {
         ensures made { IfOk result (λ stamp. Makes (settings_of self.now) pass.old act.now stamp pass.new) }
         ensures none { OnErr result (OnlySees (view_of pass.old) (view_of pass.new)) }
         ensures home { IsBlank (view_of pass.new) }
+        ensures had { HadNoLane (view_of pass.old) (view_of pass.new) }
     {
         for _ in rt.forever() {
             match commit(rt, &self.lock, pass, act) {
@@ -56,6 +57,7 @@ impl<A: Allocator + Copy> Server<A> {
         ensures owned { IsPassOf self.now pass.new }
         ensures made { IfOk result (λ stamp. Makes (settings_of self.now) pass.old act.now stamp pass.new) }
         ensures met { IfOk result (λ _. MetNone (view_of pass.old) (view_of pass.new)) }
+        ensures had { IfOk result (λ _. HadAll (view_of pass.old) (view_of pass.new)) }
         ensures refused { IfErr result (RefusesCommit (lanes_of self.now.lock) (view_of pass.old) (view_of pass.new)) }
     {
         try_commit(&self.lock, pass, act)
@@ -75,6 +77,7 @@ impl<A: Allocator + Copy> Server<A> {
         ensures made { IfOk result (λ stamp. Makes (settings_of self.now) pass.old act.now stamp pass.new) }
         ensures none { OnErr result (OnlySees (view_of pass.old) (view_of pass.new)) }
         ensures home { IsBlank (view_of pass.new) }
+        ensures had { HadNoLane (view_of pass.old) (view_of pass.new) }
     {
         self.make(rt, pass, act)
     }
@@ -89,6 +92,7 @@ impl<A: Allocator + Copy> Server<A> {
         ensures owned { IsPassOf self.now pass.new }
         ensures made { IfOk result (λ stamp. Makes (settings_of self.now) pass.old act.now stamp pass.new) }
         ensures met { IfOk result (λ _. MetNone (view_of pass.old) (view_of pass.new)) }
+        ensures had { IfOk result (λ _. HadAll (view_of pass.old) (view_of pass.new)) }
         ensures refused { IfErr result (RefusesCommit (lanes_of self.now.lock) (view_of pass.old) (view_of pass.new)) }
     {
         self.try_make(pass, act)

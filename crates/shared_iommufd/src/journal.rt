@@ -7,7 +7,7 @@ use std::alloc::Allocator;
 use std::sync::Wait;
 
 impl<A: Allocator + Copy> Server<A> {
-    ghost use Rattle.lane_lock.specs.Outcomes.{OnlySees};
+    ghost use Rattle.lane_lock.specs.Outcomes.{HadLane, OnlySees};
     ghost use Rattle.lane_lock.specs.Passes.{SamePass, view_of};
     ghost use Rattle.shared_iommufd.specs.Seen.{IsJournalOf, IsTriedJournalOf};
     ghost use Rattle.shared_iommufd.specs.Servers.{IsPassOf, settings_of};
@@ -24,6 +24,7 @@ impl<A: Allocator + Copy> Server<A> {
         ensures owned { IsPassOf self.now pass.new }
         ensures sees { OnlySees (view_of pass.old) (view_of pass.new) }
         ensures journal { IsJournalOf (settings_of self.now) pass.new result }
+        ensures had { HadLane (view_of pass.old) (view_of pass.new) }
     {
         show(rt, &self.lock, pass, self.alloc, KeptCore::journal)
     }

@@ -9,7 +9,7 @@ use std::sync::Wait;
 
 impl<A: Allocator + Copy> Server<A> {
     ghost use Rattle.std.specs.Prelude.{◌≡◌, false, IfErr, IfOk};
-    ghost use Rattle.lane_lock.specs.Outcomes.{MetNone, OnlySees, RefusesRead};
+    ghost use Rattle.lane_lock.specs.Outcomes.{HadLane, MetNone, OnlySees, RefusesRead};
     ghost use Rattle.lane_lock.specs.Passes.{SamePass, lane_of, view_of};
     ghost use Rattle.guarded_core.specs.OfPort.{query_of_port};
     ghost use Rattle.shared_iommufd.specs.Seen.{IsAnswered};
@@ -24,6 +24,7 @@ impl<A: Allocator + Copy> Server<A> {
         ensures owned { IsPassOf self.now pass.new }
         ensures sees { OnlySees (view_of pass.old) (view_of pass.new) }
         ensures answer { IsAnswered (settings_of self.now) pass.new query.now result }
+        ensures had { HadLane (view_of pass.old) (view_of pass.new) }
     {
         show(rt, &self.lock, pass, query, KeptCore::look)
     }
@@ -38,6 +39,7 @@ impl<A: Allocator + Copy> Server<A> {
         ensures sees { OnlySees (view_of pass.old) (view_of pass.new) }
         ensures answer { IfOk result (IsAnswered (settings_of self.now) pass.new query.now) }
         ensures met { IfOk result (λ _. MetNone (view_of pass.old) (view_of pass.new)) }
+        ensures had { IfOk result (λ _. HadLane (view_of pass.old) (view_of pass.new)) }
         ensures refused { IfErr result (RefusesRead (view_of pass.old) (view_of pass.new) (lane_of pass.old)) }
     {
         try_show(&self.lock, pass, query, KeptCore::look)

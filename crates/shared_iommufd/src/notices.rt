@@ -7,7 +7,7 @@ use std::alloc::Allocator;
 use std::sync::Wait;
 
 impl<A: Allocator + Copy> Server<A> {
-    ghost use Rattle.lane_lock.specs.Outcomes.{OnlySees};
+    ghost use Rattle.lane_lock.specs.Outcomes.{HadLane, OnlySees};
     ghost use Rattle.lane_lock.specs.Passes.{SamePass, view_of};
     ghost use Rattle.shared_iommufd.specs.Seen.{AreNotices, AreTriedNotices};
     ghost use Rattle.shared_iommufd.specs.Servers.{IsPassOf, settings_of};
@@ -30,6 +30,7 @@ impl<A: Allocator + Copy> Server<A> {
         ensures owned { IsPassOf self.now pass.new }
         ensures sees { OnlySees (view_of pass.old) (view_of pass.new) }
         ensures notices { AreNotices (settings_of self.now) pass.new file access result }
+        ensures had { HadLane (view_of pass.old) (view_of pass.new) }
     {
         let access = ObjectOf { file, id: access };
         show(rt, &self.lock, pass, access, KeptCore::notices)

@@ -1,20 +1,23 @@
-use Rattle.std.proofs.Common.{◌∙◌, ap, sym, subst, refl, Option, List, ℕ, arith}
-use Rattle.journal_audit_bytes.specs.Format.{Tagged, dirty_event_rows, event_rows, events_of}
-use Rattle.journal_audit_bytes.specs.Reading.{Gives, fields_of_tag, tagged_event}
+use Rattle.std.proofs.Common.{◌≡◌, ◌∙◌, ℕ, List, Option, ap, subst, sym}
+use Rattle.journal_audit_bytes.specs.Format.{Tagged, event_rows, events_of}
+use Rattle.journal_audit_bytes.specs.Reading.{IsWithRanges, fields_of_tag}
 use Rattle.journal_audit_bytes.specs.declared.version.Version.{Version}
-use Rattle.journal_audit_bytes.proofs.Tags.{fields_above, fields_below}
+use Rattle.journal_audit_bytes.proofs.Asked.{ranges_of_version, same_ranges}
+use Rattle.journal_audit_bytes.proofs.Elements.{memory_more}
 use Rattle.journal_audit_bytes.proofs.reading.event_of.Goals as goal
 
-pub returns-then-tag-ge240 : goal.returns-then-tag-ge240
-returns-then-tag-ge240 g c =
-    subst (λ (o : Option (Tagged × List ℕ)). Gives (λ x. (tagged_event x.0, x.1.now)) c.dirty_event_of_tag.result o)
-    (sym (ap (λ (v : Version). fields_of_tag (events_of v) c.args.tag c.args.bytes.now) c.in-Two.is
-    ∙ fields_above event_rows dirty_event_rows 0xf0 c.args.tag c.args.bytes.now refl
-    (omega (arith, c.if-tag-ge240.true)))) c.dirty_event_of_tag.ensures
+at_tag : (version : Version) (tag : ℕ) (bytes : List ℕ) → tag ≡ 0x82
+    → fields_of_tag (events_of version) tag bytes ≡ fields_of_tag event_rows 0x82 bytes
+at_tag version tag bytes is =
+    ap (λ (t : ℕ). fields_of_tag (events_of version) t bytes) is ∙ same_ranges version bytes
 
-pub returns-else-tag-ge240 : goal.returns-else-tag-ge240
-returns-else-tag-ge240 g c =
-    subst (λ (o : Option (Tagged × List ℕ)). Gives (λ x. (tagged_event x.0, x.1.now)) c.event_of_tag-in-Two.result o)
-    (sym (ap (λ (v : Version). fields_of_tag (events_of v) c.args.tag c.args.bytes.now) c.in-Two.is
-    ∙ fields_below event_rows dirty_event_rows 0xf0 c.args.tag c.args.bytes.now refl
-    (omega (arith, c.if-tag-ge240.false)))) c.event_of_tag-in-Two.ensures
+pub returns-then-tag-eq130-clause-read : goal.returns-then-tag-eq130-clause-read
+returns-then-tag-eq130-clause-read g c =
+    rw (at_tag c.args.version c.args.tag c.args.bytes.now c.if-tag-eq130.true) c.allow_iovas_at.ensures.read
+
+pub returns-then-tag-eq130-clause-memory : goal.returns-then-tag-eq130-clause-memory
+returns-then-tag-eq130-clause-memory g c =
+    memory_more c.allow_iovas_at.result c.allow_iovas_at.ensures.memory (λ h.
+    subst (λ (read : Option (Tagged × List ℕ)). IsWithRanges (events_of c.args.version) read)
+    (sym (at_tag c.args.version c.args.tag c.args.bytes.now c.if-tag-eq130.true))
+    (ranges_of_version c.args.version (fields_of_tag event_rows 0x82 c.args.bytes.now) h))

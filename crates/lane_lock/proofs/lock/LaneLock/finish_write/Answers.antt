@@ -4,7 +4,7 @@ use Rattle.lane_lock.specs.Hands.{Shows}
 use Rattle.std.specs.Arc.{arc_value}
 use Rattle.lane_lock.specs.Steps.{share_history}
 use Rattle.lane_lock.proofs.Drops.{any_stack, drop_all}
-use Rattle.lane_lock.proofs.PassKept.{back_history, back_keeps, back_seen, dropped_pass}
+use Rattle.lane_lock.proofs.PassKept.{back_had, back_history, back_keeps, back_seen, dropped_pass}
 use Rattle.lane_lock.proofs.Writes.{appended}
 use Rattle.lane_lock.proofs.lock.LaneLock.finish_write.Goals as goal
 
@@ -138,6 +138,10 @@ pub returns-in-Ok-clause-met : goal.returns-in-Ok-clause-met
 returns-in-Ok-clause-met g c =
     ap (λ v. v.busy) c.put_back_grown.ensures.back.view ∙ ap (λ v. v.busy) c.drop_shares.ensures.view
 
+pub returns-in-Ok-clause-had : goal.returns-in-Ok-clause-had
+returns-in-Ok-clause-had g c = back_had c.args.pass.now c.drop_shares.new.seat.me c.put_back_grown.new.seat.me
+    (g.K.Kept.history (arc_value c.apply_alone.new.share)) c.drop_shares.ensures.view c.put_back_grown.ensures.back
+
 pub returns-in-Err-clause-same : goal.returns-in-Err-clause-same
 returns-in-Err-clause-same g c = record {
   table = c.put_back_emptied.ensures.same_seat.0 ∙ c.drop_shares.ensures.same_seat.0;
@@ -161,3 +165,7 @@ returns-in-Err-clause-memory g c = let held : c.args.pass.now.share ≡ Some c.i
 pub returns-in-Err-clause-met : goal.returns-in-Err-clause-met
 returns-in-Err-clause-met g c =
     ap (λ v. v.busy) c.put_back_emptied.ensures.back.view ∙ ap (λ v. v.busy) c.drop_shares.ensures.view
+
+pub returns-in-Err-clause-had : goal.returns-in-Err-clause-had
+returns-in-Err-clause-had g c = back_had c.args.pass.now c.drop_shares.new.seat.me c.put_back_emptied.new.seat.me
+    c.drop_shares.new.seat.me.0.seen c.drop_shares.ensures.view c.put_back_emptied.ensures.back

@@ -2,9 +2,10 @@ use Rattle.std.proofs.Common.{◌+◌, ◌*◌, length, refl, sym, ap, ◌∙◌
 use Rattle.lane_lock.specs.Rule.{place}
 use Rattle.lane_lock.proofs.Climbs.{met}
 use Rattle.lane_lock.proofs.Guards.{in_front}
-use Rattle.lane_lock.proofs.PassKept.{key_words, lane_there, noted_history, noted_lanes, noted_pass, noted_sees}
+use Rattle.lane_lock.proofs.PassKept.{key_words, lane_there, noted_had, noted_history, noted_lanes, noted_pass}
+use Rattle.lane_lock.proofs.PassKept.{noted_sees}
 use Rattle.lane_lock.proofs.ReaderPass.{empty_keeps, empty_offer, empty_pass, empty_refuses, empty_sees, odd_some}
-use Rattle.lane_lock.proofs.ReaderPass.{reader_has, reader_keeps, reader_met, reader_sees}
+use Rattle.lane_lock.proofs.ReaderPass.{reader_had, reader_has, reader_keeps, reader_met, reader_sees}
 use Rattle.lane_lock.proofs.lock.LaneLock.start_read.Goals as goal
 
 pub take_to_read-found-requires-clause-table : goal.take_to_read-found-requires-clause-table
@@ -50,6 +51,7 @@ returns-then-found-ne0-clause-refused g c =
       refl,
       met m after lane found c.holder_of.result.0 t.0 c.holder_of.ensures t.2 t.3,
       ap (λ u. u.0.empty) t.0,
+      noted_had m after lane found t.0,
     )
 
 pub exchange-requires : goal.exchange-requires
@@ -145,4 +147,10 @@ pub returns-in-Some-clause-met : goal.returns-in-Some-clause-met
 returns-in-Some-clause-met g c = let t = c.take_to_read-found.ensures.told.0 c.if-found-ne0.false in
     let e = c.in-Some.ensures in
     reader_met c.args.pass.now (2 * c.from.result + 1) (odd_some c.from.result)
+    t.0 c.take_to_read-found.new.seat.me c.exchange.new.seat.me t.1 t.2 t.3 c.in-Some.share e.2 e.3
+
+pub returns-in-Some-clause-had : goal.returns-in-Some-clause-had
+returns-in-Some-clause-had g c = let t = c.take_to_read-found.ensures.told.0 c.if-found-ne0.false in
+    let e = c.in-Some.ensures in
+    reader_had c.args.pass.now (2 * c.from.result + 1) (odd_some c.from.result)
     t.0 c.take_to_read-found.new.seat.me c.exchange.new.seat.me t.1 t.2 t.3 c.in-Some.share e.2 e.3

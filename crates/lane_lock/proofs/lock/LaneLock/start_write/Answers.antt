@@ -2,9 +2,11 @@ use Rattle.std.proofs.Common.{◌+◌, ◌-◌, ◌*◌, None, length, refl, sym
 use Rattle.lane_lock.specs.Hands.{Shows}
 use Rattle.lane_lock.proofs.Climbs.{met}
 use Rattle.lane_lock.proofs.Guards.{in_front}
-use Rattle.lane_lock.proofs.PassKept.{all_held, key_words, noted_lanes, noted_pass, noted_sees, some_held, some_words}
+use Rattle.lane_lock.proofs.PassKept.{all_held, key_words, noted_had, noted_lanes, noted_pass, noted_sees, some_held}
+use Rattle.lane_lock.proofs.PassKept.{some_words}
 use Rattle.lane_lock.proofs.PassKept.{stopped_keeps, stopped_refuses, stopped_sees, word_some, writer_has, writer_keeps}
-use Rattle.lane_lock.proofs.Writes.{climbed_met, climbed_sees, first_pass, stopped_first, stopped_hand, stopped_pass, stopped_share}
+use Rattle.lane_lock.proofs.Writes.{climbed_had, climbed_met, climbed_sees, first_pass, stopped_first, stopped_hand}
+use Rattle.lane_lock.proofs.Writes.{stopped_pass, stopped_share}
 use Rattle.lane_lock.proofs.Writes.{stopped_stack, took_first}
 use Rattle.lane_lock.proofs.lock.LaneLock.start_write.Goals as goal
 
@@ -50,6 +52,7 @@ returns-then-found-ne0-clause-refused g c =
       noted_lanes m after 0 found t.0,
       c.args.self.now.few.0,
       met m after 0 found c.holder_of.result.0 t.0 c.holder_of.ensures t.2 t.3,
+      noted_had m after 0 found t.0,
     )
 
 pub exchange-requires : goal.exchange-requires
@@ -201,6 +204,14 @@ returns-in-None-clause-met g c = let t = c.take_to_write-found.ensures.told.0 c.
     c.in-Some.share t.1 t.2 c.in-Some.ensures.2 c.in-Some.ensures.3 t.3 in
     climbed_met g.K.Kept.history g.K.Kept.maker pass.seat.me m w c.in-Some.share f c.take_upper.new.seat.me
     (c.args.self.now.lanes - 1) c.in-None.ensures.told
+
+pub returns-in-None-clause-had : goal.returns-in-None-clause-had
+returns-in-None-clause-had g c = let t = c.take_to_write-found.ensures.told.0 c.if-found-ne0.false in
+    let pass = c.args.pass.now in let m = c.exchange.new.seat.me in let w = 2 * c.from.result + 2 in
+    let f = took_first g.K.Kept.history g.K.Kept.maker pass.seat.me c.take_to_write-found.new.seat.me m w t.0
+    c.in-Some.share t.1 t.2 c.in-Some.ensures.2 c.in-Some.ensures.3 t.3 in
+    climbed_had g.K.Kept.history g.K.Kept.maker pass.seat.me m w c.in-Some.share f c.take_upper.new.seat.me
+    c.args.self.now.lanes c.in-None.ensures.told c.args.self.now.few.0 (all_held c.args.self.now pass c.requires)
 
 pub returns-in-None-clause-writing : goal.returns-in-None-clause-writing
 returns-in-None-clause-writing g c = let t = c.take_to_write-found.ensures.told.0 c.if-found-ne0.false in

@@ -1,5 +1,6 @@
 use Rattle.std.proofs.Common.{refl, sym, ◌∙◌}
-use Rattle.lane_lock.proofs.Retries.{owned_still, same_then, sees_same, sees_then, told_if_ok}
+use Rattle.lane_lock.proofs.Retries.{all_then, none_had, none_then, owned_still, same_then, sees_same, sees_then}
+use Rattle.lane_lock.proofs.Retries.{told_if_ok, told_if_refused, write_had}
 use Rattle.lane_lock.proofs.lock.LaneLock.write.Goals as goal
 
 pub loop-init : goal.loop-init
@@ -9,6 +10,7 @@ loop-init g c = record {
   owned = c.requires;
   same = record { table = refl; number = refl; lane = refl };
   sees = sees_same c.args.pass.now.seat.me.0;
+  had = none_had c.args.pass.now.seat.me.0;
 }
 
 pub start_write-requires : goal.start_write-requires
@@ -39,6 +41,11 @@ returns-then-is_ok-clause-sees g c =
     sees_then c.args.pass.now.seat.me.0 c.loop.pass.seat.me.0 c.start_write.new.pass.seat.me.0
     c.loop.invariant.sees c.start_write.ensures.sees
 
+pub returns-then-is_ok-clause-had : goal.returns-then-is_ok-clause-had
+returns-then-is_ok-clause-had g c =
+    all_then c.args.pass.now.seat.me.0 c.loop.pass.seat.me.0 c.start_write.new.pass.seat.me.0 c.loop.invariant.had
+    (told_if_ok c.start_write.result (sym c.is_ok.ensures.value ∙ c.if-is_ok.true) c.start_write.ensures.had)
+
 pub loop-preserved : goal.loop-preserved
 loop-preserved g c = let i = c.loop.invariant in let e = c.start_write.ensures in record {
   can_next = tt;
@@ -46,4 +53,7 @@ loop-preserved g c = let i = c.loop.invariant in let e = c.start_write.ensures i
   owned = owned_still c.args.self.now c.loop.pass c.start_write.new.pass i.owned e.same e.sees;
   same = same_then c.args.pass.now c.loop.pass c.start_write.new.pass i.same e.same;
   sees = sees_then c.args.pass.now.seat.me.0 c.loop.pass.seat.me.0 c.start_write.new.pass.seat.me.0 i.sees e.sees;
+  had = none_then c.args.pass.now.seat.me.0 c.loop.pass.seat.me.0 c.start_write.new.pass.seat.me.0 i.had
+      (told_if_refused c.start_write.result _ (sym c.is_ok.ensures.value ∙ c.if-is_ok.false)
+      (write_had c.loop.pass.seat.me.0 c.start_write.new.pass.seat.me.0 c.args.self.now.lanes) e.refused);
 }

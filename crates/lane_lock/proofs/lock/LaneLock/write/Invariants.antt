@@ -1,4 +1,4 @@
-use Rattle.lane_lock.specs.Outcomes.{OnlySees}
+use Rattle.lane_lock.specs.Outcomes.{HadNone, OnlySees}
 use Rattle.lane_lock.specs.Passes.{Owns, SamePass, view_of}
 use Rattle.lane_lock.proofs.lock.LaneLock.write.Given as goal
 
@@ -9,4 +9,5 @@ invariant-loop g l = record {
   owned : Owns l.self l.pass;
   same : SamePass l.initial.pass l.pass;
   sees : OnlySees (view_of l.initial.pass) (view_of l.pass);
+  had : HadNone (view_of l.initial.pass) (view_of l.pass);
 }

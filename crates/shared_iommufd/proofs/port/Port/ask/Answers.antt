@@ -14,6 +14,7 @@ invariant_of-self g c =
           (standing_of a.self.now) c.in-Ok.answer (stands_so c.try_read_by.new.pass c.keep.new.self) a.self.now.kept
           record {
             sees = c.in-Ok.ensures.sees;
+            had = c.in-Ok.ensures.had;
             finds = c.in-Ok.found;
             tells = c.in-Ok.ensures.tells;
             turns = c.keep.ensures.turns;

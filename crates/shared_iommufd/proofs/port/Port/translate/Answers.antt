@@ -1,6 +1,6 @@
 use Rattle.std.proofs.Common.{refl, ◌∙◌}
-use Rattle.lane_lock.specs.Passes.{view_of}
-use Rattle.lane_lock.proofs.Retries.{sees_same, sees_then}
+use Rattle.lane_lock.specs.Passes.{lane_of, view_of}
+use Rattle.lane_lock.proofs.Retries.{none_had, none_then, read_had, sees_same, sees_then}
 use Rattle.shared_iommufd.specs.Ports.{most_of, standing_of}
 use Rattle.shared_iommufd.specs.Servers.{settings_of}
 use Rattle.shared_iommufd.proofs.PortTranslations.{translated_sooner}
@@ -16,6 +16,7 @@ loop-init g c =
       owned = record { device = c.requires.device; pass = c.requires.pass };
       same = record { device = refl; pass = same_pass a.self.now.pass; most = refl };
       sees = sees_same (view_of a.self.now.pass);
+      had = none_had (view_of a.self.now.pass);
       keeps = record { turns = refl; kept = refl };
       last = refl;
     }
@@ -27,7 +28,7 @@ returns-in-Ok-clause-translated g c =
     let inv = loop.invariant in
     translated_sooner (settings_of a.server.now) a.iova.0 a.kind (standing_of a.self.now) (standing_of loop.self)
     inv.keeps (loop.self.device, most_of loop.self) (a.self.now.device, most_of a.self.now) c.in-Ok.translation
-    (standing_of c.translate_now.new.self) (λ i. (inv.same.device i, inv.same.most i)) inv.sees
+    (standing_of c.translate_now.new.self) (λ i. (inv.same.device i, inv.same.most i)) inv.sees inv.had
     c.in-Ok.ensures.translated.0
 
 pub loop-preserved : goal.loop-preserved
@@ -44,6 +45,9 @@ loop-preserved g c =
       same = port_then _ loop.self c.translate_now.new.self inv.same e.same_port;
       sees = sees_then (view_of a.self.now.pass) (view_of loop.self.pass) (view_of c.translate_now.new.self.pass)
           inv.sees e.sees;
+      had = none_then (view_of a.self.now.pass) (view_of loop.self.pass) (view_of c.translate_now.new.self.pass) inv.had
+          (read_had (view_of loop.self.pass) (view_of c.translate_now.new.self.pass) (lane_of loop.self.pass) c.in-Err.field-0
+          e.translated.0);
       keeps = record { turns = keeps.turns ∙ inv.keeps.turns; kept = keeps.kept ∙ inv.keeps.kept };
       last = e.last ∙ inv.last;
     }

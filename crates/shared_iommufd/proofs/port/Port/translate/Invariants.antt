@@ -1,5 +1,5 @@
 use Rattle.std.proofs.Common.{◌≡◌, None}
-use Rattle.lane_lock.specs.Outcomes.{OnlySees}
+use Rattle.lane_lock.specs.Outcomes.{HadNone, OnlySees}
 use Rattle.lane_lock.specs.Passes.{view_of}
 use Rattle.shared_iommufd.specs.Ports.{IsPortOf, KeepsSame, SamePort, standing_of}
 use Rattle.shared_iommufd.proofs.port.Port.translate.Given as goal
@@ -11,6 +11,7 @@ invariant-loop g l = record {
   owned : IsPortOf l.server l.self;
   same : SamePort l.initial.self l.self;
   sees : OnlySees (view_of l.initial.self.pass) (view_of l.self.pass);
+  had : HadNone (view_of l.initial.self.pass) (view_of l.self.pass);
   keeps : KeepsSame (standing_of l.initial.self) (standing_of l.self);
   last : l.self.last ≡ None;
 }

@@ -1,4 +1,4 @@
-use Rattle.lane_lock.specs.Outcomes.{OnlySees}
+use Rattle.lane_lock.specs.Outcomes.{HadNoLane, OnlySees}
 use Rattle.lane_lock.specs.Passes.{SamePass, view_of}
 use Rattle.shared_iommufd.specs.Servers.{IsPassOf}
 use Rattle.shared_iommufd.proofs.server.Server.make.Given as goal
@@ -10,4 +10,5 @@ invariant-loop g l = record {
   owned : IsPassOf l.self l.pass;
   same : SamePass l.initial.pass l.pass;
   sees : OnlySees (view_of l.initial.pass) (view_of l.pass);
+  had : HadNoLane (view_of l.initial.pass) (view_of l.pass);
 }

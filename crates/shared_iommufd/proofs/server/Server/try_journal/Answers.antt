@@ -16,7 +16,7 @@ returns-in-Ok-Ok-clause-journal g c =
     let tells : TellsJournal h c.in-Ok-Ok.field-0 = search rules in
     let told = journalled (settings_of server) (opened_with server.lock) h c.try_show.new.pass (Ok c.in-Ok-Ok.bytes)
     refl server.fresh k.opened run k.seen k.legal k.home (subst (TellsJournal h) c.in-Ok-Ok.field-0-is tells) in
-    (told, c.in-Ok-Ok.ensures.met)
+    (told, c.in-Ok-Ok.ensures.met, c.in-Ok-Ok.ensures.had)
 
 pub returns-in-Ok-Err-clause-journal : goal.returns-in-Ok-Err-clause-journal
 returns-in-Ok-Err-clause-journal g c =
@@ -28,4 +28,4 @@ returns-in-Ok-Err-clause-journal g c =
     let tells : TellsJournal h c.in-Ok-Err.field-0 = search rules in
     let told = journalled (settings_of server) (opened_with server.lock) h c.try_show.new.pass (Err c.in-Ok-Err.failed)
     refl server.fresh k.opened run k.seen k.legal k.home (subst (TellsJournal h) c.in-Ok-Err.field-0-is tells) in
-    (told, c.in-Ok-Err.ensures.met)
+    (told, c.in-Ok-Err.ensures.met, c.in-Ok-Err.ensures.had)

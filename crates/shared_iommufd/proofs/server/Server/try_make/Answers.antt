@@ -1,4 +1,4 @@
-use Rattle.std.proofs.Common.{refl}
+use Rattle.std.proofs.Common.{refl, rules}
 use Rattle.guarded_core.specs.Opening.{opened_with}
 use Rattle.shared_iommufd.specs.Servers.{settings_of}
 use Rattle.guarded_core.proofs.Guards.{if_ok}
@@ -12,4 +12,4 @@ returns-clause-made g c =
     if_ok c.try_commit.result _ _ c.try_commit.ensures.committed (λ stamp k.
     makes (settings_of server) (opened_with server.lock) k.before.core.history k.after.core.history pass pass _
     c.args.act.now stamp k.entry refl server.fresh k.opened (same_pass pass) (sees_same pass)
-    k.later k.mine k.gives k.seen k.grown k.own k.home)
+    k.later k.mine k.gives k.seen k.grown k.own k.home (search rules))

@@ -41,7 +41,7 @@ returns-clause-tells g c =
     told.shows shown in
     let made = makes_from (settings_of server) (opened_with server.lock) h k.after.core.history pass pass
     c.try_commit_later.new.pass act r.1 k.entry refl server.fresh k.opened (same_pass pass) (sees_same pass) k.later
-    k.mine k.gives k.seen k.grown k.own k.home in
+    k.mine k.gives k.seen k.grown k.own k.home (search rules) in
     tells_write (settings_of server) h a.device a.iova a.bytes (stands_so pass cache) r.0 act r.1
     c.try_commit_later.new.pass (same_settings h (opened_with server.lock) k.opened) made.0 made.1 k.gives.chosen
     under)
