@@ -120,7 +120,8 @@ module _ {A : Type 0} {g : CoreGhosts A} where
       → IsBlank (view_of q)
       → OnlySees (view_of p) (view_of q) → HadLane (view_of p) (view_of q) → TellsRanges Z h file request.ioas ranges
       → AnswersSet Z request ranges answer → IsTold settings p file request answer q
-  ranges_told settings o h p q file request ranges answer opened fresh starts run seen legal home sees had tells answers =
+  ranges_told settings o h p q file request ranges answer opened fresh starts run seen legal home sees had tells
+      answers =
       let e : h.settings ≡ settings = same_settings h o starts ∙ opened in
       record {
         sees = sees;
@@ -141,7 +142,8 @@ module _ {A : Type 0} {g : CoreGhosts A} where
       → (view_of r).seen ≡ told old ++ x ∷ [] → (view_of r).made ≡ (view_of q).made ++ x ∷ []
       → IsBlank (view_of r) → HadNoLane (view_of p) (view_of r)
       → (m : Makes settings p act stamp r) × (m.before ≡ old.records)
-  makes_from settings o old new p q r act stamp x opened fresh starts same sees later mine applied seen grown own home had =
+  makes_from settings o old new p q r act stamp x opened fresh starts same sees later mine applied seen grown own home
+      had =
       let e : old.settings ≡ settings = same_settings old o starts ∙ opened in
       let was : old ≡ history_of settings old.records = is_history old settings e in
       let made = applied.one_more.made in

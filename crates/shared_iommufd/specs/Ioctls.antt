@@ -135,8 +135,8 @@ module _ {A : Type 0} where
         ⊎ ((command : Command A) × Spells number bytes command
         × IsServed settings p file (asked file command) answer q)
 
--- no look was had: the lane of the pass was held or empty; or it was met neither way, had at most once, and memory was
--- wanting
+-- no look was had: the lane of the pass was held or empty; or no lane was met held, a share was read at most once, and
+-- memory was wanting
 abbrev pub RefusesLook : {E : Type 0} → ℕ → View E → View E → TryError NoMemory → Type 0
 RefusesLook lane v w (tried.NotNow refused) = RefusesRead v w lane refused
 RefusesLook lane v w (tried.Call no_memory) = OnlySees v w × MetNone v w × (HadNone v w ⊎ HadLane v w)

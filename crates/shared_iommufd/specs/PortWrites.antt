@@ -54,8 +54,8 @@ module _ {A : Type 0} {g : CoreGhosts A} where
     pub frame : FrameNo
     pub written : IsWrittenSo settings device most address piece.bytes p (reply.Passed frame) piece.at piece.after
 
-  -- So many of the bytes have been written, and the last record of these pieces stands at this place. Since then the pass
-  -- had no lane to read.
+  -- So many of the bytes have been written, and the last record of these pieces stands at this place. Since then the
+  -- pass had no lane to read.
   pub record HasWritten (settings : Settings) (device : DeviceNo) (most address : ℕ) (bytes : List ℕ) (p : Standing A g)
       (done : ℕ) (q : Standing A g) (last : Option ℕ) : Type 0 where
     pub pieces : List (Piece A g)
@@ -65,8 +65,8 @@ module _ {A : Type 0} {g : CoreGhosts A} where
     pub ends : last ≡ last_place None pieces
 
   -- Why a piece isn't written: the reply to its record says so; or it made none, for want of memory while no lane was met
-  -- held and all were had at most once, or since the lanes couldn't be had, of which there are so many; then the port keeps
-  -- what it kept.
+  -- held and all were had at most once, or since the lanes couldn't be had, of which there are so many; then the port
+  -- keeps what it kept.
   abbrev pub DeniesWrite : Settings → ℕ → DeviceNo → ℕ → ℕ → List ℕ → Standing A g → Option ℕ → TryError PortCause
       → Standing A g → Option ℕ → Type 0
   DeniesWrite settings lanes device most address bytes p before (tried.Call (cause.Refused refusal)) q last =

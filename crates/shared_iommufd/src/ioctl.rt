@@ -147,10 +147,10 @@ fn told<A: Allocator>(
 }
 
 impl<A: Allocator + Copy> Server<A> {
-    ghost use Rattle.std.specs.Prelude.{None, OnErr, IfErr};
+    ghost use Rattle.std.specs.Prelude.{◌⊎◌, None, OnErr, IfErr};
     ghost use Rattle.ioctl_codec.specs.Events.{asked};
     ghost use Rattle.ioctl_codec.specs.Refusals.{refusal};
-    ghost use Rattle.lane_lock.specs.Outcomes.{MetNone, OnlySees};
+    ghost use Rattle.lane_lock.specs.Outcomes.{HadLane, HadNoLane, HadNone, MetNone, OnlySees};
     ghost use Rattle.lane_lock.specs.Passes.{SamePass, lane_of, lanes_of, view_of};
     ghost use Rattle.guarded_core.specs.Guarded.{RefusesCommit};
     ghost use Rattle.shared_iommufd.specs.Ioctls.{IsDecoded, IsMade, IsReported, IsServed, IsTold};
@@ -179,6 +179,8 @@ impl<A: Allocator + Copy> Server<A> {
             IsDecoded (settings_of self.now) pass.old file number bytes.now answer pass.new) }
         ensures spelt { OnErr result (refusal number bytes.now ≡ None) }
         ensures none { OnErr result (OnlySees (view_of pass.old) (view_of pass.new)) }
+        ensures had { OnErr result (HadNoLane (view_of pass.old) (view_of pass.new)
+            ⊎ HadLane (view_of pass.old) (view_of pass.new)) }
     {
         match decode(self.alloc, number, bytes) {
             Ok(command) => self.serve(rt, pass, file, command),
@@ -226,6 +228,8 @@ impl<A: Allocator + Copy> Server<A> {
         ensures served { IfOk result (λ answer.
             IsServed (settings_of self.now) pass.old file (asked file command) answer pass.new) }
         ensures none { OnErr result (OnlySees (view_of pass.old) (view_of pass.new)) }
+        ensures had { OnErr result (HadNoLane (view_of pass.old) (view_of pass.new)
+            ⊎ HadLane (view_of pass.old) (view_of pass.new)) }
     {
         match command.asked(file) {
             Asked::Event(event) => self.answer_event(rt, pass, event),
@@ -269,6 +273,7 @@ impl<A: Allocator + Copy> Server<A> {
         ensures owned { IsPassOf self.now pass.new }
         ensures made { IfOk result (λ answer. IsMade (settings_of self.now) pass.old event answer pass.new) }
         ensures none { OnErr result (OnlySees (view_of pass.old) (view_of pass.new)) }
+        ensures had { OnErr result (HadNoLane (view_of pass.old) (view_of pass.new)) }
     {
         let room = room_for_reply(self.alloc)?;
         let act = Act { event, via: None };
@@ -312,6 +317,8 @@ impl<A: Allocator + Copy> Server<A> {
         ensures owned { IsPassOf self.now pass.new }
         ensures told { IfOk result (λ answer. IsReported (settings_of self.now) pass.old file request answer pass.new) }
         ensures none { OnErr result (OnlySees (view_of pass.old) (view_of pass.new)) }
+        ensures had { OnErr result (HadNone (view_of pass.old) (view_of pass.new)
+            ⊎ HadLane (view_of pass.old) (view_of pass.new)) }
     {
         let room = room_for_reply(self.alloc)?;
         let told = self.look(rt, pass, &Query::Dirty { file, request });
@@ -354,6 +361,8 @@ impl<A: Allocator + Copy> Server<A> {
         ensures owned { IsPassOf self.now pass.new }
         ensures told { IfOk result (λ answer. IsTold (settings_of self.now) pass.old file request answer pass.new) }
         ensures none { OnErr result (OnlySees (view_of pass.old) (view_of pass.new)) }
+        ensures had { OnErr result (HadNone (view_of pass.old) (view_of pass.new)
+            ⊎ HadLane (view_of pass.old) (view_of pass.new)) }
     {
         let ioas = ObjectOf {
             file,

@@ -24,7 +24,7 @@ fn place_of<E>(made: &Result<Stamp, E>) -> Option<u64>
 
 impl<A: Allocator + Copy> Port<A> {
     ghost use Rattle.std.specs.Prelude.{IfErr, IfOk, OnErr};
-    ghost use Rattle.lane_lock.specs.Outcomes.{HadAll, MetNone, OnlySees};
+    ghost use Rattle.lane_lock.specs.Outcomes.{HadAll, HadNoLane, MetNone, OnlySees};
     ghost use Rattle.lane_lock.specs.Passes.{lanes_of, view_of};
     ghost use Rattle.guarded_core.specs.Guarded.{RefusesCommit};
     ghost use Rattle.shared_iommufd.specs.Made.{Makes, act_of};
@@ -42,6 +42,7 @@ impl<A: Allocator + Copy> Port<A> {
         ensures made { IfOk result (λ stamp. Makes (settings_of server.now) self.old.pass
             (act_of (Event.Flush self.old.device)) stamp self.new.pass) }
         ensures none { OnErr result (OnlySees (view_of self.old.pass) (view_of self.new.pass)) }
+        ensures had { HadNoLane (view_of self.old.pass) (view_of self.new.pass) }
         ensures empty { KeepsNothing self.new }
         ensures last { self.new.last ≡ place_of result }
     {
@@ -86,6 +87,7 @@ impl<A: Allocator + Copy> Port<A> {
         ensures made { IfOk result (λ stamp. Makes (settings_of server.now) self.old.pass
             (act_of (Event.Attach self.old.device pt_id)) stamp self.new.pass) }
         ensures none { OnErr result (OnlySees (view_of self.old.pass) (view_of self.new.pass)) }
+        ensures had { HadNoLane (view_of self.old.pass) (view_of self.new.pass) }
         ensures empty { KeepsNothing self.new }
         ensures last { self.new.last ≡ place_of result }
     {
@@ -125,6 +127,7 @@ impl<A: Allocator + Copy> Port<A> {
         ensures made { IfOk result (λ stamp. Makes (settings_of server.now) self.old.pass
             (act_of (Event.Detach self.old.device)) stamp self.new.pass) }
         ensures none { OnErr result (OnlySees (view_of self.old.pass) (view_of self.new.pass)) }
+        ensures had { HadNoLane (view_of self.old.pass) (view_of self.new.pass) }
         ensures empty { KeepsNothing self.new }
         ensures last { self.new.last ≡ place_of result }
     {
@@ -163,6 +166,7 @@ impl<A: Allocator + Copy> Port<A> {
         ensures made { IfOk result (λ stamp. Makes (settings_of server.now) self.old.pass (act_of event) stamp
             self.new.pass) }
         ensures none { OnErr result (OnlySees (view_of self.old.pass) (view_of self.new.pass)) }
+        ensures had { HadNoLane (view_of self.old.pass) (view_of self.new.pass) }
         ensures empty { KeepsNothing self.new }
         ensures last { self.new.last ≡ place_of result }
     {

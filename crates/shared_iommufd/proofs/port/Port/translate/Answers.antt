@@ -46,8 +46,8 @@ loop-preserved g c =
       sees = sees_then (view_of a.self.now.pass) (view_of loop.self.pass) (view_of c.translate_now.new.self.pass)
           inv.sees e.sees;
       had = none_then (view_of a.self.now.pass) (view_of loop.self.pass) (view_of c.translate_now.new.self.pass) inv.had
-          (read_had (view_of loop.self.pass) (view_of c.translate_now.new.self.pass) (lane_of loop.self.pass) c.in-Err.field-0
-          e.translated.0);
+          (read_had (view_of loop.self.pass) (view_of c.translate_now.new.self.pass) (lane_of loop.self.pass)
+          c.in-Err.field-0 e.translated.0);
       keeps = record { turns = keeps.turns ∙ inv.keeps.turns; kept = keeps.kept ∙ inv.keeps.kept };
       last = e.last ∙ inv.last;
     }

@@ -16,7 +16,8 @@ returns-in-Ok-Ok-clause-notices g c =
     let tells : TellsNotices h c.args.file c.args.access c.in-Ok-Ok.field-0 = search rules in
     let told = notified (settings_of server) (opened_with server.lock) h c.try_show.new.pass c.args.file c.args.access
     (Ok c.in-Ok-Ok.notices) refl server.fresh k.opened run k.seen k.legal k.home
-    (subst (TellsNotices h c.args.file c.args.access) c.in-Ok-Ok.field-0-is tells) in (told, c.in-Ok-Ok.ensures.met, c.in-Ok-Ok.ensures.had)
+    (subst (TellsNotices h c.args.file c.args.access) c.in-Ok-Ok.field-0-is tells) in
+    (told, c.in-Ok-Ok.ensures.met, c.in-Ok-Ok.ensures.had)
 
 pub returns-in-Ok-Err-clause-notices : goal.returns-in-Ok-Err-clause-notices
 returns-in-Ok-Err-clause-notices g c =
@@ -28,4 +29,5 @@ returns-in-Ok-Err-clause-notices g c =
     let tells : TellsNotices h c.args.file c.args.access c.in-Ok-Err.field-0 = search rules in
     let told = notified (settings_of server) (opened_with server.lock) h c.try_show.new.pass c.args.file c.args.access
     (Err c.in-Ok-Err.failed) refl server.fresh k.opened run k.seen k.legal k.home
-    (subst (TellsNotices h c.args.file c.args.access) c.in-Ok-Err.field-0-is tells) in (told, c.in-Ok-Err.ensures.met, c.in-Ok-Err.ensures.had)
+    (subst (TellsNotices h c.args.file c.args.access) c.in-Ok-Err.field-0-is tells) in
+    (told, c.in-Ok-Err.ensures.met, c.in-Ok-Err.ensures.had)
