@@ -29,6 +29,28 @@ pub appends_none : (known : Option (List ℕ)) → Appends known known []
 appends_none None = tt
 appends_none (Some xs) = sym (append-nil xs)
 
+-- a front of what stands behind other bytes, and of what has more behind it
+pub front_behind : (before front all : List ℕ) → IsFront front all → IsFront (before ++ front) (before ++ all)
+front_behind before front all (rest, some, is) =
+    (rest, some, ap (λ l. before ++ l) is ∙ sym (append_assoc before front rest))
+
+none_in_front : (xs ys : List ℕ) → xs ++ ys ≡ [] → xs ≡ []
+none_in_front [] ys none = refl
+none_in_front (x ∷ xs) ys none = absurd cc
+
+pub front_of_more : (front all more : List ℕ) → IsFront front all → IsFront front (all ++ more)
+front_of_more front all more (rest, some, is) = (
+  rest ++ more,
+  λ none. some (none_in_front rest more none),
+  ap (λ l. l ++ more) is ∙ append_assoc front rest more,
+)
+
+-- behind what was written, bytes that were kept and handed on
+pub kept_on : (out handed kept old line : List ℕ) → handed ++ kept ≡ old ++ line
+    → (out ++ old) ++ line ≡ (out ++ handed) ++ kept
+kept_on out handed kept old line is =
+    append_assoc out old line ∙ ap (λ l. out ++ l) (sym is) ∙ sym (append_assoc out handed kept)
+
 pub on_err : {T E P : Type 0} (r : Result T E) → P → OnErr r P
 on_err (Ok x) p = tt
 on_err (Err e) p = p
@@ -67,19 +89,73 @@ module _ {A : Type 0} where
       let all : first ≡ steps = sym (split ∙ ap (λ l. first ++ l) none ∙ append-nil first) in
       subst (λ (l : List Step). StepsLines s l out now) all lines
 
-  -- of the next step's line there's a front
-  pub begun_text : (s now after : Server A) (steps first left others : List Step) (step : Step)
-      (out line front : List ℕ) → StepsLines s first out now → steps ≡ first ++ left
-      → left ≡ step ∷ others → IsAnswered now step line after → IsFront front line → BeginsSteps s steps (out ++ front)
-  begun_text s now after steps first left others step out line front lines split next answered short = record {
-    first = first ++ step ∷ [];
-    others = others;
-    split = split_on steps first left others step split next;
-    last = after;
-    text = out ++ line;
-    lines = lines_on s now after first step out line lines answered;
-    front = (short.0, short.1, ap (λ l. out ++ l) short.2 ∙ sym (append_assoc out front short.0));
-  }
+  -- the lines of the first steps are written, but for those at the end that are kept in a page
+  abbrev pub AreKept : Server A → List Step → Option (List ℕ) → List Step → Option (List ℕ) → List ℕ → Server A → Type 0
+  AreKept s steps old left new page now =
+      (first : List Step) × (out : List ℕ) × (steps ≡ first ++ left) × Appends old new out
+      × StepsLines s first (out ++ page) now
+
+  module _ (s now after : Server A) (steps left others : List Step) (step : Step) (old mid new : Option (List ℕ))
+      (page line : List ℕ) (kept : AreKept s steps old left mid page now) (next : left ≡ step ∷ others)
+      (answered : IsAnswered now step line after) where
+    -- the next step's line is kept behind them, where as much is handed on as is needed for it
+    pub kept_more : (handed behind : List ℕ) → Appends mid new handed → handed ++ behind ≡ page ++ line
+        → AreKept s steps old others new behind after
+    kept_more handed behind more is =
+        let (first, out, split, written, lines) = kept in (
+          first ++ step ∷ [],
+          out ++ handed,
+          split_on steps first left others step split next,
+          appends_more old mid new out handed written more,
+          subst (λ (l : List ℕ). StepsLines s (first ++ step ∷ []) l after) (kept_on out handed behind page line is)
+              (lines_on s now after first step (out ++ page) line lines answered),
+        )
+
+    -- or a front is written of them all
+    pub begun_more : Writes (λ out. IsFront out (page ++ line)) mid new → Writes (BeginsSteps s steps) old new
+    begun_more (front, short, more) =
+        let (first, out, split, written, lines) = kept in (
+          out ++ front,
+          record {
+            first = first ++ step ∷ [];
+            others = others;
+            split = split_on steps first left others step split next;
+            last = after;
+            text = out ++ (page ++ line);
+            lines = subst (λ (l : List ℕ). StepsLines s (first ++ step ∷ []) l after) (append_assoc out page line)
+                (lines_on s now after first step (out ++ page) line lines answered);
+            front = front_behind out front (page ++ line) short;
+          },
+          appends_more old mid new out front written more,
+        )
+
+  module _ (s now : Server A) (steps left : List Step) (old mid new : Option (List ℕ)) (page : List ℕ)
+      (kept : AreKept s steps old left mid page now) where
+    -- no step is left, and the page is written
+    pub written_last : left ≡ [] → Appends mid new page → Writes (λ out. StepsLines s steps out now) old new
+    written_last none more =
+        let (first, out, split, written, lines) = kept in (
+          out ++ page,
+          all_lines s now steps first left (out ++ page) lines split none,
+          appends_more old mid new out page written more,
+        )
+
+    -- or a front of it is
+    pub begun_last : Writes (λ out. IsFront out page) mid new → Writes (BeginsSteps s steps) old new
+    begun_last (front, short, more) =
+        let (first, out, split, written, lines) = kept in (
+          out ++ front,
+          record {
+            first = first;
+            others = left;
+            split = split;
+            last = now;
+            text = out ++ page;
+            lines = lines;
+            front = front_behind out front page short;
+          },
+          appends_more old mid new out front written more,
+        )
 
   -- nothing is asked for behind the lines
   pub plain_text : (settings : Settings) (s now : Server A) (steps : List Step) (out : List ℕ)

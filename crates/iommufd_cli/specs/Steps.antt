@@ -1,5 +1,5 @@
 -- One step of a session: the line that it is answered with, and the server behind it.
-use Rattle.std.specs.Prelude.{◌≡◌, ◌⊎◌, ◌<◌, ℕ, Option, Some, None, List, Vec, length}
+use Rattle.std.specs.Prelude.{◌≡◌, ◌⊎◌, ◌<◌, ℕ, Bool, true, false, Option, Some, None, List, Vec, length}
 use Rattle.iofd_words.specs.Accesses.{notices}
 use Rattle.iofd_words.specs.Bounds.{Bounds}
 use Rattle.iofd_words.specs.Checks.{refusal}
@@ -36,6 +36,20 @@ use Rattle.iommufd_script.specs.declared.line.Step.TheVariants as step
 -- the text tells the notices of these spans, or there are some and memory was wanting
 abbrev pub AreNotices : List Bounds → List ℕ → Type 0
 AreNotices spans text = (text ≡ line (notices_text spans)) ⊎ ((0 < length spans) × (text ≡ line memory_text))
+
+-- the step is an event of a few numbers: no ioctl, nothing with bytes, and no question
+abbrev pub is_plain_event : Step → Bool
+is_plain_event (step.Ioctl file number bytes) = false
+is_plain_event (step.UserRead user va len) = false
+is_plain_event (step.UserWrite user va bytes) = false
+is_plain_event (step.DeviceRead device iova len) = false
+is_plain_event (step.DeviceWrite device iova bytes) = false
+is_plain_event (step.AccessRead file id iova len) = false
+is_plain_event (step.AccessWrite file id iova bytes) = false
+is_plain_event (step.Notices file id) = false
+is_plain_event step.FreeFrames = false
+is_plain_event (step.Held user) = false
+is_plain_event s = true
 
 module _ {A : Type 0} where
   -- the bytes of an answer: those of the long line where there is one, and else of the one in place

@@ -11,6 +11,7 @@ mod journal;
 mod line;
 mod names;
 mod output;
+mod page;
 mod replies;
 mod run;
 mod steps;

@@ -7,8 +7,7 @@ ghost use Rattle.iommufd_cli.specs.Output.{IsFinal, IsFront, Writes};
 use std::io::{self, ErrorKind, Write};
 
 /// Writes all of the bytes. Where a write fails, takes no byte, or was interrupted 2^64 times, it is an error, and a
-/// front of the bytes was written. Each line is written by it, so its result is kept from going through memory.
-#[inline(always)]
+/// front of the bytes was written.
 pub(crate) fn put<W: Write>(writer: &mut W, bytes: &[u8]) -> io::Result<()>
     ensures ok { OnOk result (Appends (W.contents writer.old) (W.contents writer.new) bytes.now) }
     ensures err { OnErr result (Writes (λ front. IsFront front bytes.now) (W.contents writer.old)
@@ -24,7 +23,6 @@ pub(crate) fn put<W: Write>(writer: &mut W, bytes: &[u8]) -> io::Result<()>
 }
 
 // One write of at least one byte; one that a signal interrupts is tried again.
-#[inline(always)]
 fn put_some<W: Write>(writer: &mut W, bytes: &[u8]) -> io::Result<usize>
     ensures some { IfOk result (λ count. (0 < count) × (count ≤ length bytes.now)) }
     ensures ok { IfOk result (λ count.

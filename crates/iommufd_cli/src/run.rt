@@ -1,6 +1,6 @@
 //! A session: from a script's bytes to the lines of its replies.
 
-ghost use Rattle.std.specs.Prelude.{◌≡◌, true, IfErr, IfOk, IfSome, OnErr, OnOk};
+ghost use Rattle.std.specs.Prelude.{◌≡◌, ◌++◌, true, IfErr, IfOk, IfSome, OnErr, OnOk};
 ghost use Rattle.std.specs.Io.KnownBytes.{Appends};
 ghost use Rattle.iommufd_cli.specs.Failures.{BeginsEnd, BeginsLines, BeginsRunText, BeginsSteps, BeginsText, IsWithin};
 ghost use Rattle.iommufd_cli.specs.Failures.{Leaves};
@@ -14,6 +14,7 @@ use crate::input::read_all;
 use crate::journal::journal_line;
 use crate::line::Line;
 use crate::output::put;
+use crate::page::Page;
 use crate::replies::{bad_line, memory_line, no_memory_line};
 use crate::steps::answer_step;
 use iofd_words::{Config, Record};
@@ -144,7 +145,8 @@ fn put_journal<W: Write, A: Allocator + Copy>(
     }
 }
 
-// Carries out the steps in turn, and writes the line of each.
+// Carries out the steps in turn, and writes the line of each. Lines are kept until a page is full, since a call of the
+// writer for each would take as long as many a step.
 fn run_steps<W: Write, A: Allocator + Copy>(
     alloc: A,
     core: &mut Core<A>,
@@ -157,11 +159,36 @@ fn run_steps<W: Write, A: Allocator + Copy>(
         (W.contents writer.new)) }
     ensures retried { IfErr result IsFinal }
 {
+    let mut page = Page::new();
     let mut line = Line::new();
     while let Some(step) = steps.next_step() {
         let long = answer_step(alloc, core, &step, &mut line);
-        put(writer, answered(&long, &line))?;
+        let bytes = answered(&long, &line);
+        if bytes.len() <= page.room() {
+            page.push_slice(bytes);
+        } else {
+            hand_on(writer, &mut page, bytes)?;
+        }
     }
+    put(writer, page.as_slice())
+}
+
+// Hands on what the page has, for which these bytes are too many, and keeps them in its place; bytes that no page has
+// room for are handed on, too. It is no part of its caller's loop, whose steps seldom come here.
+#[inline(never)]
+fn hand_on<W: Write>(writer: &mut W, page: &mut Page, bytes: &[u8]) -> io::Result<()>
+    ensures ok { OnOk result (Writes (λ out. out ++ page.new ≡ page.old ++ bytes.now) (W.contents writer.old)
+        (W.contents writer.new)) }
+    ensures err { OnErr result (Writes (λ out. IsFront out (page.old ++ bytes.now)) (W.contents writer.old)
+        (W.contents writer.new)) }
+    ensures retried { IfErr result IsFinal }
+{
+    put(writer, page.as_slice())?;
+    page.clear();
+    if bytes.len() > page.room() {
+        return put(writer, bytes);
+    }
+    page.push_slice(bytes);
     Ok(())
 }
 

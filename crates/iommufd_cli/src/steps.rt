@@ -1,9 +1,9 @@
 //! One step of a session: carried out, and answered with a line.
 
-ghost use Rattle.std.specs.Prelude.{◌≡◌, ◌⊎◌, ◌<◌, ◌^◌, IsTrue, length};
+ghost use Rattle.std.specs.Prelude.{◌≡◌, ◌⊎◌, ◌<◌, ◌^◌, IsTrue, length, true};
 ghost use Rattle.iommufd_cli.specs.Replies.{event_text, line, memory_text, ranges_text};
 ghost use Rattle.iommufd_cli.specs.Steps.{AreNotices, IsAnswered, IsApplied, IsAsked, IsDecoded, IsIoctl, IsNotices};
-ghost use Rattle.iommufd_cli.specs.Steps.{IsRanges, IsReport, IsServed, text_of};
+ghost use Rattle.iommufd_cli.specs.Steps.{IsRanges, IsReport, IsServed, is_plain_event, text_of};
 ghost use Rattle.ioctl_codec.specs.Events.{asked};
 ghost use Rattle.iommufd_core.specs.History.{may_look};
 ghost use Rattle.iofd_words.specs.declared.event.Event.TheVariants as event;
@@ -12,9 +12,12 @@ ghost use Rattle.iofd_words.specs.declared.query.Query.TheVariants as query;
 use crate::line::Line;
 use crate::replies::{notices_line, ranges_line};
 use ioctl_codec::{Asked, Command, DecodeError, RangesRequest, decode};
-use iofd_words::{Act, CallError, DirtyRequest, Event, FileNo, ObjId, PassNo, Query, Reply, Span};
+use iofd_words::{
+    Act, CallError, DeviceNo, DirtyRequest, Event, FileNo, Iova, ObjId, PassNo, Query, Reply, Span,
+    UserNo,
+};
 use iommufd_core::Core;
-use iommufd_script::{HexBytes, Step};
+use iommufd_script::{AccessBytes, HexBytes, Step};
 use std::alloc::Allocator;
 
 /// The caller that a session's records have.
@@ -34,60 +37,144 @@ pub fn answer_step<A: Allocator + Copy>(
 ) -> Option<Vec<u8, A>>
     ensures { IsAnswered core.old step.now (text_of result out.new) core.new }
 {
-    let event = match step {
+    match step {
         Step::Ioctl(file, number, bytes) => {
-            return answer_ioctl(alloc, core, *file, *number, bytes, out);
+            answer_ioctl(alloc, core, *file, *number, bytes, out)
         }
+        Step::UserRead(user, va, len) => user_read(core, *user, *va, *len, out),
+        Step::UserWrite(user, va, bytes) => user_write(core, *user, *va, bytes, out),
+        Step::DeviceRead(device, iova, len) => device_read(core, *device, *iova, *len, out),
+        Step::DeviceWrite(device, iova, bytes) => device_write(core, *device, *iova, bytes, out),
+        Step::AccessRead(file, access, iova, len) => {
+            access_read(core, *file, *access, *iova, *len, out)
+        }
+        Step::AccessWrite(file, access, iova, bytes) => {
+            access_write(core, *file, *access, *iova, bytes, out)
+        }
+        Step::Notices(file, access) => answer_notices(alloc, core, *file, *access, out),
+        Step::FreeFrames => answer_query(core, &Query::FreeFrames, out),
+        Step::Held(user) => answer_query(core, &Query::Held(*user), out),
+        _ => plain_event(core, step, out),
+    }
+}
+
+// The line for a step that is an event of a few numbers.
+fn plain_event<A: Allocator + Copy>(
+    core: &mut Core<A>,
+    step: &Step<'_>,
+    out: &mut Line,
+) -> Option<Vec<u8, A>>
+    requires { is_plain_event step.now ≡ true }
+    ensures { IsAnswered core.old step.now (text_of result out.new) core.new }
+{
+    let event = match step {
         Step::Close(file) => Event::Close(*file),
         Step::UserMap(user, va) => Event::UserMap(*user, *va),
         Step::UserUnmap(user, va) => Event::UserUnmap(*user, *va),
-        Step::UserRead(user, va, len) => {
-            let query = Query::UserRead {
-                user: *user,
-                va: *va,
-                len: *len,
-            };
-            return answer_query(core, &query, out);
-        }
-        Step::UserWrite(user, va, bytes) => Event::UserWrite(*user, *va, bytes.burst()),
         Step::Bind(file, device) => Event::Bind(*file, *device),
         Step::Unbind(file, id) => Event::Unbind(*file, *id),
         Step::Attach(device, pt_id) => Event::Attach(*device, *pt_id),
         Step::Detach(device) => Event::Detach(*device),
         Step::Flush(device) => Event::Flush(*device),
-        Step::DeviceRead(device, iova, len) => {
-            let query = Query::DeviceRead {
-                device: *device,
-                iova: *iova,
-                len: *len,
-            };
-            return answer_query(core, &query, out);
-        }
-        Step::DeviceWrite(device, iova, bytes) => {
-            Event::DeviceWrite(*device, *iova, bytes.burst())
-        }
         Step::AccessCreate(file) => Event::AccessCreate(*file),
         Step::AccessAttach(file, id, ioas) => Event::AccessAttach(*file, *id, *ioas),
         Step::AccessDetach(file, id) => Event::AccessDetach(*file, *id),
         Step::AccessPin(file, id, request) => Event::AccessPin(*file, *id, *request),
         Step::AccessUnpin(file, id, request) => Event::AccessUnpin(*file, *id, *request),
-        Step::AccessRead(file, access, iova, len) => {
-            let query = Query::AccessRead {
-                file: *file,
-                access: *access,
-                iova: *iova,
-                len: *len,
-            };
-            return answer_query(core, &query, out);
-        }
-        Step::AccessWrite(file, id, iova, bytes) => {
-            Event::AccessWrite(*file, *id, *iova, bytes.burst())
-        }
-        Step::Notices(file, access) => return answer_notices(alloc, core, *file, *access, out),
-        Step::FreeFrames => return answer_query(core, &Query::FreeFrames, out),
-        Step::Held(user) => return answer_query(core, &Query::Held(*user), out),
+        _ => unreachable!(),
     };
     answer_event(core, event, out)
+}
+
+// The line for a user's read. Reads and writes, of which there are most, have a function each: the values that one
+// needs for them take no time of the others' then.
+fn user_read<A: Allocator>(
+    core: &Core<A>,
+    user: UserNo,
+    va: u64,
+    len: u8,
+    out: &mut Line,
+) -> Option<Vec<u8, A>>
+    ensures { IsAsked core.now (query.UserRead user va len) (text_of result out.new) core.now }
+{
+    answer_query(core, &Query::UserRead { user, va, len }, out)
+}
+
+// The line for a user's write.
+fn user_write<A: Allocator + Copy>(
+    core: &mut Core<A>,
+    user: UserNo,
+    va: u64,
+    bytes: &AccessBytes<'_>,
+    out: &mut Line,
+) -> Option<Vec<u8, A>>
+    ensures { IsApplied core.old (event.UserWrite user va bytes.now) (text_of result out.new) core.new }
+{
+    answer_event(core, Event::UserWrite(user, va, bytes.burst()), out)
+}
+
+// The line for a device's read.
+fn device_read<A: Allocator>(
+    core: &Core<A>,
+    device: DeviceNo,
+    iova: Iova,
+    len: u8,
+    out: &mut Line,
+) -> Option<Vec<u8, A>>
+    ensures { IsAsked core.now (query.DeviceRead device iova len) (text_of result out.new) core.now }
+{
+    answer_query(core, &Query::DeviceRead { device, iova, len }, out)
+}
+
+// The line for a device's write.
+fn device_write<A: Allocator + Copy>(
+    core: &mut Core<A>,
+    device: DeviceNo,
+    iova: Iova,
+    bytes: &AccessBytes<'_>,
+    out: &mut Line,
+) -> Option<Vec<u8, A>>
+    ensures { IsApplied core.old (event.DeviceWrite device iova bytes.now) (text_of result out.new) core.new }
+{
+    answer_event(core, Event::DeviceWrite(device, iova, bytes.burst()), out)
+}
+
+// The line for an access object's read.
+fn access_read<A: Allocator>(
+    core: &Core<A>,
+    file: FileNo,
+    access: ObjId,
+    iova: Iova,
+    len: u8,
+    out: &mut Line,
+) -> Option<Vec<u8, A>>
+    ensures { IsAsked core.now (query.AccessRead file access iova len) (text_of result out.new) core.now }
+{
+    let query = Query::AccessRead {
+        file,
+        access,
+        iova,
+        len,
+    };
+    answer_query(core, &query, out)
+}
+
+// The line for an access object's write.
+fn access_write<A: Allocator + Copy>(
+    core: &mut Core<A>,
+    file: FileNo,
+    access: ObjId,
+    iova: Iova,
+    bytes: &AccessBytes<'_>,
+    out: &mut Line,
+) -> Option<Vec<u8, A>>
+    ensures { IsApplied core.old (event.AccessWrite file access iova bytes.now) (text_of result out.new) core.new }
+{
+    answer_event(
+        core,
+        Event::AccessWrite(file, access, iova, bytes.burst()),
+        out,
+    )
 }
 
 // The line for an event: always a short one.

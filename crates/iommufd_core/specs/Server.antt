@@ -1,5 +1,5 @@
 -- What a core is seen as.
-use Rattle.std.specs.Prelude.{◌≡◌, ◌<◌, ◌⊎◌, ℕ, Bool, true, false, None, IsTrue, List, length, nat_lt}
+use Rattle.std.specs.Prelude.{◌≡◌, ◌<◌, ◌⊎◌, ℕ, Bool, true, false, None, IsTrue, length, nat_lt}
 use Rattle.iofd_words.specs.Allowed.{ranges_of}
 use Rattle.iofd_words.specs.Checks.{refusal}
 use Rattle.iofd_words.specs.Objects.{has_hwpt}
@@ -45,6 +45,19 @@ takes_memory v (event.AccessUnpin file id request) = false
 takes_memory v (event.AccessWrite file id iova bytes) = false
 takes_memory v (event.DirtyEnable file hwpt on) = on
 takes_memory v (event.DirtyClear file request) = false
+
+-- the events of which none ever does
+abbrev pub is_in_place : {A : Type 0} → Event A → Bool
+is_in_place (event.UserUnmap user va) = true
+is_in_place (event.UserWrite user va bytes) = true
+is_in_place (event.Unbind file id) = true
+is_in_place (event.Flush device) = true
+is_in_place (event.AccessAttach file id ioas) = true
+is_in_place (event.AccessDetach file id) = true
+is_in_place (event.AccessUnpin file id request) = true
+is_in_place (event.AccessWrite file id iova bytes) = true
+is_in_place (event.DirtyClear file request) = true
+is_in_place e = false
 
 -- the only time at which memory may be wanting: there is no place for the record, or for the list that the event
 -- carries, or nothing refuses the event and it is one that may take memory

@@ -1,10 +1,10 @@
 //! Each event, refused or carried out.
 
-ghost use Rattle.std.specs.Prelude.{◌≡◌, None, [], IfOk, IsTrue, OnErr};
+ghost use Rattle.std.specs.Prelude.{◌≡◌, true, None, [], IfOk, IsTrue, OnErr};
 ghost use Rattle.iofd_words.specs.Checks.{checks};
 ghost use Rattle.iofd_words.specs.FirstTrue.{first_true};
 ghost use Rattle.server_state.specs.Seen.{seen};
-ghost use Rattle.iommufd_core.specs.Server.{takes_memory};
+ghost use Rattle.iommufd_core.specs.Server.{is_in_place, takes_memory};
 ghost use Rattle.server_state.specs.Step.{Answered, IsCalled, IsGrantedFor, IsKnown, MovingSteps, TidyShowsSame};
 
 use access_pins::{
@@ -121,29 +121,38 @@ fn commit<A: Allocator + Copy>(
         Event::Destroy(file, id) => destroy::commit(state, *file, *id, given),
         Event::Close(file) => close::commit(state, *file, given),
         Event::UserMap(user, va) => user_map::commit(state, *user, *va),
-        Event::UserUnmap(user, va) => Ok(user_unmap::commit(state, *user, *va)),
-        Event::UserWrite(user, va, bytes) => Ok(user_write::commit(state, *user, *va, bytes)),
         Event::Bind(file, device) => bind::commit(state, *file, *device),
-        Event::Unbind(file, id) => Ok(unbind::commit(state, *file, *id)),
         Event::Attach(device, pt_id) => attach::commit(state, *device, *pt_id, taken),
         Event::Detach(device) => detach::commit(state, *device, given),
-        Event::Flush(device) => Ok(flush::commit(state, *device)),
         Event::DeviceWrite(device, iova, bytes) => {
             device_write::commit(state, *device, *iova, bytes, act.via)
         }
         Event::AccessCreate(file) => create::commit(state, *file),
-        Event::AccessAttach(file, id, ioas) => {
-            Ok(access_attach::commit(state, *file, *id, *ioas))
-        }
-        Event::AccessDetach(file, id) => Ok(access_detach::commit(state, *file, *id)),
         Event::AccessPin(file, id, request) => access_pin::commit(state, *file, *id, *request),
-        Event::AccessUnpin(file, id, request) => {
-            Ok(access_unpin::commit(state, *file, *id, *request))
-        }
-        Event::AccessWrite(file, id, iova, bytes) => {
-            Ok(access_write::commit(state, *file, *id, *iova, bytes))
-        }
         Event::DirtyEnable(file, hwpt, on) => dirty_enable::commit(state, *file, *hwpt, *on),
-        Event::DirtyClear(file, request) => Ok(dirty_report::commit(state, *file, *request)),
+        _ => Ok(commit_in_place(state, at, act)),
+    }
+}
+
+/// Carries out an event that nothing refuses, at this position, and that takes no memory and moves no frames of tables.
+/// It stands apart, so that no other event waits while room for these replies is cleared.
+fn commit_in_place<A: Allocator + Copy>(state: &mut State<A>, at: u64, act: &Act<A>) -> Reply
+    requires in_place { is_in_place act.now.event ≡ true }
+    requires granted { IsGrantedFor at act.now.event act.now.via state.old }
+    ensures { MovingSteps at act.now.event act.now.via state.old result [] [] state.new }
+{
+    match &act.event {
+        Event::UserUnmap(user, va) => user_unmap::commit(state, *user, *va),
+        Event::UserWrite(user, va, bytes) => user_write::commit(state, *user, *va, bytes),
+        Event::Unbind(file, id) => unbind::commit(state, *file, *id),
+        Event::Flush(device) => flush::commit(state, *device),
+        Event::AccessAttach(file, id, ioas) => access_attach::commit(state, *file, *id, *ioas),
+        Event::AccessDetach(file, id) => access_detach::commit(state, *file, *id),
+        Event::AccessUnpin(file, id, request) => access_unpin::commit(state, *file, *id, *request),
+        Event::AccessWrite(file, id, iova, bytes) => {
+            access_write::commit(state, *file, *id, *iova, bytes)
+        }
+        Event::DirtyClear(file, request) => dirty_report::commit(state, *file, *request),
+        _ => unreachable!(),
     }
 }

@@ -42,11 +42,21 @@ pub enum StepKeyword {
     Held,
 }
 
-// Whether the word is this one. Most differ in their length or their first byte, so that no call compares them.
+// Whether the word is this one. Each name is written out where this is called, so that its bytes are compared one by
+// one with no call.
+#[inline(always)]
 fn is_word(word: &[u8], name: &[u8]) -> bool
     ensures { result ≡ bytes_eq word.now name.now }
 {
-    word.len() == name.len() && (word.is_empty() || word[0] == name[0]) && word == name
+    if word.len() != name.len() {
+        return false;
+    }
+    for i in 0..name.len() {
+        if word[i] != name[i] {
+            return false;
+        }
+    }
+    true
 }
 
 // The word of the head that this is.

@@ -1,4 +1,4 @@
-use Rattle.std.proofs.Common.{ap, codes, sym, ◌∙◌}
+use Rattle.std.proofs.Common.{ap, codes, ◌∙◌}
 use Rattle.clap.proofs.WalkLemmas.{first_value-rows}
 use Rattle.clap.specs.Words.{found_of}
 use Rattle.iommufd_cli.specs.CommandLine.{is_true}

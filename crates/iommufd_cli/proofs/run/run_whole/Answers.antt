@@ -1,4 +1,4 @@
-use Rattle.std.proofs.Common.{Bool, true, List, ℕ, ◌++◌, refl, subst, sym}
+use Rattle.std.proofs.Common.{Bool, true, List, ◌++◌, refl, subst, sym}
 use Rattle.iofd_words.specs.declared.record.Record.{Record}
 use Rattle.iommufd_cli.specs.Failures.{BeginsEnd, BeginsLines}
 use Rattle.iommufd_cli.specs.Journal.{EndText}

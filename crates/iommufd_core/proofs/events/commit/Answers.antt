@@ -1,6 +1,6 @@
 use Rattle.std.proofs.Common.{[], refl, sym, subst}
 use Rattle.iofd_words.specs.declared.event.Event.{Event}
-use Rattle.iommufd_core.proofs.Answering.{granted_as, granted_at, granted_known, granted_via, if_ok, none_chosen}
+use Rattle.iommufd_core.proofs.Answering.{granted_as, granted_at, granted_via, if_ok, none_chosen}
 use Rattle.iommufd_core.proofs.Answering.{none_moved, on_err, takes_as}
 use Rattle.server_state.proofs.Errors.{on_err_same}
 use Rattle.server_state.specs.Step.{MovingSteps}
@@ -72,68 +72,6 @@ pub returns-in-AccessPin-clause-err : goal.returns-in-AccessPin-clause-err
 returns-in-AccessPin-clause-err g c = on_err c.commit-in-AccessPin.result _ _
     (λ same w tidy shows. same c.args.at w tidy shows) c.commit-in-AccessPin.ensures.err
 
-pub returns-in-UserUnmap-clause-ok : goal.returns-in-UserUnmap-clause-ok
-returns-in-UserUnmap-clause-ok g c =
-    subst (λ (e : Event _). MovingSteps c.args.at e c.args.act.now.via c.args.state.now c.commit-in-UserUnmap.result
-    c.args.taken.now.items c.args.given.now.items c.commit-in-UserUnmap.new.state) (sym c.in-UserUnmap.is)
-    (none_chosen c.args.at _ c.args.act.now.via c.args.state.now c.commit-in-UserUnmap.new.state
-    c.commit-in-UserUnmap.result c.args.taken.now.items c.args.given.now.items c.requires.none_taken
-    c.requires.none_given (λ w. tt) (λ w. tt) (λ left t. refl) (c.commit-in-UserUnmap.ensures c.args.at) (λ w. tt))
-
-pub returns-in-UserWrite-clause-ok : goal.returns-in-UserWrite-clause-ok
-returns-in-UserWrite-clause-ok g c =
-    subst (λ (e : Event _). MovingSteps c.args.at e c.args.act.now.via c.args.state.now c.commit-in-UserWrite.result
-    c.args.taken.now.items c.args.given.now.items c.commit-in-UserWrite.new.state) (sym c.in-UserWrite.is)
-    (none_chosen c.args.at _ c.args.act.now.via c.args.state.now c.commit-in-UserWrite.new.state
-    c.commit-in-UserWrite.result c.args.taken.now.items c.args.given.now.items c.requires.none_taken
-    c.requires.none_given (λ w. tt) (λ w. tt) (λ left t. refl) (c.commit-in-UserWrite.ensures c.args.at) (λ w. tt))
-
-pub returns-in-Unbind-clause-ok : goal.returns-in-Unbind-clause-ok
-returns-in-Unbind-clause-ok g c =
-    subst (λ (e : Event _). MovingSteps c.args.at e c.args.act.now.via c.args.state.now c.commit-in-Unbind.result
-    c.args.taken.now.items c.args.given.now.items c.commit-in-Unbind.new.state) (sym c.in-Unbind.is)
-    (none_chosen c.args.at _ c.args.act.now.via c.args.state.now c.commit-in-Unbind.new.state c.commit-in-Unbind.result
-    c.args.taken.now.items c.args.given.now.items c.requires.none_taken c.requires.none_given (λ w. tt) (λ w. tt) (λ left t. refl) (c.commit-in-Unbind.ensures c.args.at) (λ w. tt))
-
-pub returns-in-AccessAttach-clause-ok : goal.returns-in-AccessAttach-clause-ok
-returns-in-AccessAttach-clause-ok g c =
-    subst (λ (e : Event _). MovingSteps c.args.at e c.args.act.now.via c.args.state.now c.commit-in-AccessAttach.result
-    c.args.taken.now.items c.args.given.now.items c.commit-in-AccessAttach.new.state) (sym c.in-AccessAttach.is)
-    (none_chosen c.args.at _ c.args.act.now.via c.args.state.now c.commit-in-AccessAttach.new.state
-    c.commit-in-AccessAttach.result c.args.taken.now.items c.args.given.now.items c.requires.none_taken
-    c.requires.none_given (λ w. tt) (λ w. tt) (λ left t. refl) (c.commit-in-AccessAttach.ensures c.args.at) (λ w. tt))
-
-pub returns-in-AccessDetach-clause-ok : goal.returns-in-AccessDetach-clause-ok
-returns-in-AccessDetach-clause-ok g c =
-    subst (λ (e : Event _). MovingSteps c.args.at e c.args.act.now.via c.args.state.now c.commit-in-AccessDetach.result
-    c.args.taken.now.items c.args.given.now.items c.commit-in-AccessDetach.new.state) (sym c.in-AccessDetach.is)
-    (none_chosen c.args.at _ c.args.act.now.via c.args.state.now c.commit-in-AccessDetach.new.state
-    c.commit-in-AccessDetach.result c.args.taken.now.items c.args.given.now.items c.requires.none_taken
-    c.requires.none_given (λ w. tt) (λ w. tt) (λ left t. refl) (c.commit-in-AccessDetach.ensures c.args.at) (λ w. tt))
-
-pub returns-in-AccessUnpin-clause-ok : goal.returns-in-AccessUnpin-clause-ok
-returns-in-AccessUnpin-clause-ok g c =
-    subst (λ (e : Event _). MovingSteps c.args.at e c.args.act.now.via c.args.state.now c.commit-in-AccessUnpin.result
-    c.args.taken.now.items c.args.given.now.items c.commit-in-AccessUnpin.new.state) (sym c.in-AccessUnpin.is)
-    (none_chosen c.args.at _ c.args.act.now.via c.args.state.now c.commit-in-AccessUnpin.new.state
-    c.commit-in-AccessUnpin.result c.args.taken.now.items c.args.given.now.items c.requires.none_taken
-    c.requires.none_given (λ w. tt) (λ w. tt) (λ left t. refl) (c.commit-in-AccessUnpin.ensures c.args.at) (λ w. tt))
-
-pub returns-in-AccessWrite-clause-ok : goal.returns-in-AccessWrite-clause-ok
-returns-in-AccessWrite-clause-ok g c =
-    subst (λ (e : Event _). MovingSteps c.args.at e c.args.act.now.via c.args.state.now c.commit-in-AccessWrite.result
-    c.args.taken.now.items c.args.given.now.items c.commit-in-AccessWrite.new.state) (sym c.in-AccessWrite.is)
-    (none_chosen c.args.at _ c.args.act.now.via c.args.state.now c.commit-in-AccessWrite.new.state
-    c.commit-in-AccessWrite.result c.args.taken.now.items c.args.given.now.items c.requires.none_taken
-    c.requires.none_given (λ w. tt) (λ w. tt) (λ left t. refl) (c.commit-in-AccessWrite.ensures c.args.at) (λ w. tt))
-
-pub returns-in-Flush-clause-ok : goal.returns-in-Flush-clause-ok
-returns-in-Flush-clause-ok g c =
-    subst (λ (e : Event _). MovingSteps c.args.at e c.args.act.now.via c.args.state.now c.commit-in-Flush.result
-    c.args.taken.now.items c.args.given.now.items c.commit-in-Flush.new.state) (sym c.in-Flush.is)
-    (none_chosen c.args.at _ c.args.act.now.via c.args.state.now c.commit-in-Flush.new.state c.commit-in-Flush.result
-    c.args.taken.now.items c.args.given.now.items c.requires.none_taken c.requires.none_given (λ w. tt) (λ w. tt) (λ left t. refl) (c.commit-in-Flush.ensures c.args.at) (λ w. tt))
-
 pub returns-in-UserMap-clause-ok : goal.returns-in-UserMap-clause-ok
 returns-in-UserMap-clause-ok g c = if_ok c.commit-in-UserMap.result _ _
     (λ reply steps. subst (λ (e : Event _). MovingSteps c.args.at e c.args.act.now.via c.args.state.now reply
@@ -172,16 +110,6 @@ returns-in-DirtyEnable-clause-ok g c = if_ok c.commit-in-DirtyEnable.result _ _
 pub returns-in-DirtyEnable-clause-err : goal.returns-in-DirtyEnable-clause-err
 returns-in-DirtyEnable-clause-err g c =
     on_err c.commit-in-DirtyEnable.result _ _ (λ same w tidy shows. same w shows) c.commit-in-DirtyEnable.ensures.err
-
-pub returns-in-DirtyClear-clause-ok : goal.returns-in-DirtyClear-clause-ok
-returns-in-DirtyClear-clause-ok g c =
-    subst (λ (e : Event _). MovingSteps c.args.at e c.args.act.now.via c.args.state.now c.commit-in-DirtyClear.result
-    c.args.taken.now.items c.args.given.now.items c.commit-in-DirtyClear.new.state) (sym c.in-DirtyClear.is)
-    (none_chosen c.args.at _ c.args.act.now.via c.args.state.now c.commit-in-DirtyClear.new.state
-    c.commit-in-DirtyClear.result c.args.taken.now.items c.args.given.now.items c.requires.none_taken
-    c.requires.none_given (λ w. tt) (λ w. tt) (λ left t. refl) (c.commit-in-DirtyClear.ensures c.args.at) (λ w. tt))
-
--- ---- events that take frames, or give them back
 
 pub returns-in-Map-clause-ok : goal.returns-in-Map-clause-ok
 returns-in-Map-clause-ok g c = rw c.requires.none_given (if_ok c.commit-in-Map.result _ _
@@ -341,51 +269,13 @@ pub commit-requires-in-UserMap : goal.commit-requires-in-UserMap
 commit-requires-in-UserMap g c =
     granted_as c.args.at _ _ c.args.act.now.via c.args.state.now c.in-UserMap.is c.requires.granted
 
-pub commit-requires-in-UserUnmap : goal.commit-requires-in-UserUnmap
-commit-requires-in-UserUnmap g c =
-    granted_as c.args.at _ _ c.args.act.now.via c.args.state.now c.in-UserUnmap.is c.requires.granted
-
-pub commit-requires-in-UserWrite : goal.commit-requires-in-UserWrite
-commit-requires-in-UserWrite g c =
-    granted_as c.args.at _ _ c.args.act.now.via c.args.state.now c.in-UserWrite.is c.requires.granted
-
-pub commit-requires-in-Unbind : goal.commit-requires-in-Unbind
-commit-requires-in-Unbind g c =
-    granted_as c.args.at _ _ c.args.act.now.via c.args.state.now c.in-Unbind.is c.requires.granted
-
-pub commit-requires-in-AccessAttach : goal.commit-requires-in-AccessAttach
-commit-requires-in-AccessAttach g c =
-    granted_as c.args.at _ _ c.args.act.now.via c.args.state.now c.in-AccessAttach.is c.requires.granted
-
-pub commit-requires-in-AccessDetach : goal.commit-requires-in-AccessDetach
-commit-requires-in-AccessDetach g c =
-    granted_as c.args.at _ _ c.args.act.now.via c.args.state.now c.in-AccessDetach.is c.requires.granted
-
 pub commit-requires-in-AccessPin : goal.commit-requires-in-AccessPin
 commit-requires-in-AccessPin g c =
     granted_as c.args.at _ _ c.args.act.now.via c.args.state.now c.in-AccessPin.is c.requires.granted
 
-pub commit-requires-in-AccessUnpin : goal.commit-requires-in-AccessUnpin
-commit-requires-in-AccessUnpin g c =
-    granted_as c.args.at _ _ c.args.act.now.via c.args.state.now c.in-AccessUnpin.is c.requires.granted
-
-pub commit-requires-in-AccessWrite : goal.commit-requires-in-AccessWrite
-commit-requires-in-AccessWrite g c =
-    granted_as c.args.at _ _ c.args.act.now.via c.args.state.now c.in-AccessWrite.is c.requires.granted
-
-pub commit-requires-in-Flush : goal.commit-requires-in-Flush
-commit-requires-in-Flush g c =
-    granted_known c.args.at _ _ c.args.act.now.via c.args.state.now c.in-Flush.is c.requires.granted
-
 pub commit-requires-in-DeviceWrite : goal.commit-requires-in-DeviceWrite
 commit-requires-in-DeviceWrite g c =
     granted_via c.args.at _ _ c.args.act.now.via c.args.state.now c.in-DeviceWrite.is c.requires.granted
-
-pub commit-requires-in-DirtyClear : goal.commit-requires-in-DirtyClear
-commit-requires-in-DirtyClear g c =
-    granted_as c.args.at _ _ c.args.act.now.via c.args.state.now c.in-DirtyClear.is c.requires.granted
-
--- ---- want of memory, by which something comes
 
 pub returns-in-IoasAlloc-clause-memory : goal.returns-in-IoasAlloc-clause-memory
 returns-in-IoasAlloc-clause-memory g c =
