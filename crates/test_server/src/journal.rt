@@ -82,8 +82,8 @@ fn a_session_ends_with_its_journal(rt: HostRuntime) {
 
 #[test]
 fn a_write_of_the_journal_fails(rt: HostRuntime) {
-    // The third write is the journal's.
-    let bad = (usize::MAX, 2, ErrorKind::BrokenPipe);
+    // The lines are written together, and the second write is the journal's.
+    let bad = (usize::MAX, 1, ErrorKind::BrokenPipe);
     assert!(rt; has_written(rt.alloc(), bad, b"ok frame 0\nok frame 1\n", None));
 }
 
