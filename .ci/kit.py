@@ -2,7 +2,8 @@
 
 A stamp is a sum of all that a crate is made from, those of all crates below it among them, and rt works each out anew
 wherever it is asked for: along every path of crates.txt, of which the crates at the top have ten thousands. With some
-kits that takes longer than the proofs. Here each is kept, which holds as long as nobody edits the sources meanwhile.
+kits that takes as long as the proofs. Here each is kept, which holds as long as nobody edits the sources meanwhile; so
+a kit whose `rt ci` asks by stamps whether somebody did wouldn't find out.
 """
 import importlib.machinery
 import importlib.util
@@ -36,4 +37,5 @@ def command():
     """The module of rt, whose main takes the words behind `rt`."""
     rt = loaded(os.path.realpath(shutil.which("rt")), "rt_main")
     rt.rtlib.Crate.stamp = remembered(rt.rtlib.Crate.stamp)
+    assert callable(rt.main)
     return rt

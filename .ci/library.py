@@ -2,8 +2,9 @@
 """Builds the static library of crates/iommufd_c over the libraries that `rt ci` has just proved in this clone.
 
 `rt ci` leaves each library in crates/NAME/out/rlib without the stamp by which `rt lib` knows what it was made from, so
-that `rt lib` alone would prove all of them once more. This writes the stamps, and then is `rt lib`. To be run at the
-top of the repository right after `rt ci`, and never after an edit.
+that `rt lib` alone would prove all of them once more. This writes the stamps, and then is `rt lib`. One that stood there
+before `rt ci` is put back by it with its own stamp, which stays. To be run at the top of the repository right after
+`rt ci`, and never after an edit.
 """
 import os
 import sys
@@ -16,8 +17,9 @@ import kit
 def main():
     rt = kit.command()
     for crate in rt.rtlib.crates_below(os.getcwd()):
-        if os.path.isdir(crate.rlib):
-            with open(f"{crate.folder}/out/rlib/stamp", "w", encoding="utf-8") as file:
+        stamp = f"{crate.folder}/out/rlib/stamp"
+        if os.path.isdir(crate.rlib) and not os.path.exists(stamp):
+            with open(stamp, "w", encoding="utf-8") as file:
                 file.write(crate.stamp())
     os.chdir("crates/iommufd_c")
     return rt.main(["lib"])

@@ -6,7 +6,8 @@
  * one history of records: a call that changes something makes one, or none.
  *
  * RESULTS. Each call answers an int32_t: 0, or the negative number of an errno (-EINVAL), or DEFNULK_NOT_NOW: it can't
- * be served now, as where another call is on the way; it did nothing, and has to be made again. No call waits.
+ * be served now, as where another call is on the way; it made no record, and has to be made again (of a port's read or
+ * write the rest; and a port's flush, attach or detach has emptied its cache all the same). No call waits.
  * What else a call tells stands in a struct defnulk_outcome. Where outcome.cause and outcome.fault are 0, these
  * errnos are the library's own, and the call did nothing:
  *
@@ -26,16 +27,18 @@
  *
  * DEFNULK_NOT_NOW comes where another thread is in a call of the same server, or was just now.
  *
- * HANDLES. A handle begins as DEFNULK_CLOSED, and is from then on only what these calls made of it: its bytes are
- * never copied, compared or written by anybody else. (It may be moved: the old place is then DEFNULK_CLOSED again.)
+ * HANDLES. A handle begins as DEFNULK_CLOSED, and is from then on only what these calls made of it: its bytes are not
+ * compared or written by anybody else, and no copy of them is used. (It may be moved: its bytes are copied to the new
+ * place, and the old one is set to DEFNULK_CLOSED at once.)
  * It is in one call at a time. Another thread may use it once that is ordered by a lock, or by a thread's start or
  * join. Different handles, of one server too, may be used by different threads at the same time.
  *
  * WHAT IS TESTED, AND WHAT CAN'T BE. The calls below test that no pointer is null, that no array is longer than
  * PTRDIFF_MAX bytes, that arrays, handles and places for results don't overlap, and that a handle is open and of the
  * right kind. Nothing can tell a pointer to too little memory, a copied handle, one with other bytes in it, or two
- * calls at once by one handle. The functions defnulk_raw_.. test none of it, and are called through those below
- * alone, or from a language whose own rules say the same of its references (examples/rust).
+ * calls at once by one handle. The functions defnulk_raw_.. test whether a handle is open and of the right kind, and
+ * none of the rest; they are called through those below alone, or from a language whose own rules say the same of its
+ * references (examples/rust).
  *
  * Not from a signal handler, nor in a forked child. Memory is taken by malloc, realloc and free, which have to align
  * to 16 bytes.
@@ -92,7 +95,7 @@ enum defnulk_cause {
     DEFNULK_CAUSE_NO_RIGHT = 21, /* EINVAL: neither READABLE nor WRITEABLE */
     DEFNULK_CAUSE_RESERVED = 22, /* EINVAL: a fixed span outside the usable ranges */
     DEFNULK_CAUSE_FULL = 23, /* ENOSPC: no room for a chosen address, or a limit reached */
-    DEFNULK_CAUSE_LIST = 24, /* EINVAL: allowed ranges that are empty or overlap */
+    DEFNULK_CAUSE_LIST = 24, /* EINVAL: an allowed range that doesn't begin below its last address, or two that overlap */
     DEFNULK_CAUSE_PLACES = 25, /* EMSGSIZE: fewer places than ranges */
     DEFNULK_CAUSE_CROSS = 26, /* EINVAL: an access of 0 or more than 64 bytes, or across a page */
     DEFNULK_CAUSE_INTERRUPT_RANGE = 27, /* EINVAL: an access of an x86 device to its interrupt range */
@@ -347,7 +350,7 @@ static inline int32_t defnulk_close(struct defnulk_handle *handle) {
 
 /* ---- Calls of callers */
 
-/* Carries out a call of ioctl that the file makes with this number (0x3b80 to 0x3b89 of linux/iommufd.h, and 0x3bf0
+/* Carries out a call of ioctl that the file makes with this number (0x3b80 to 0x3b86 and 0x3b89 of linux/iommufd.h, 0x3bf0
    and 0x3bf1, DIRTY_ENABLE and DIRTY_REPORT, of Defnulk's own: docs/SCRIPT.md has their structures) and these bytes:
    the kernel's own structure, and behind it the array that the kernel reads by a pointer (struct iommu_iova_range of
    IOAS_ALLOW_IOVAS). Pointers in the structure are ignored. What the kernel writes back, the structure with its
@@ -567,13 +570,13 @@ static inline int32_t defnulk_port_flush(struct defnulk_handle *handle, struct d
 }
 
 /* Attaches the device to the address space or the hardware page table of this id, in the file that it is bound to. The
-   value is the id of the page table used. The port forgets all pages. */
+   value is the id of the page table used. The port forgets all pages, also where the call isn't served now. */
 static inline int32_t defnulk_port_attach(struct defnulk_handle *handle, uint32_t pt_id, struct defnulk_outcome *out) {
     int32_t fit = defnulk_test(handle, NULL, 0, out);
     return fit != 0 ? fit : defnulk_raw_port_attach(handle, pt_id, out);
 }
 
-/* Ends the device's attachment. The port forgets all pages. */
+/* Ends the device's attachment. The port forgets all pages, also where the call isn't served now. */
 static inline int32_t defnulk_port_detach(struct defnulk_handle *handle, struct defnulk_outcome *out) {
     int32_t fit = defnulk_test(handle, NULL, 0, out);
     return fit != 0 ? fit : defnulk_raw_port_detach(handle, out);

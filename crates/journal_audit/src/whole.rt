@@ -18,8 +18,8 @@ use std::alloc::Allocator;
 
 /// What these bytes are, by the definitions alone: a journal of either version whose records are a run, and how many;
 /// or which record is the first that doesn't go on with the run; or where no record, or no head, begins. Its only error
-/// is want of memory, of bytes that begin with a mark, the size of a pool and the limits of users alone. It takes memory
-/// by what the records hold and leave, and never by a number that stands in them.
+/// is want of memory, of bytes that begin with a mark, the size of a pool and the limits of users alone. No clause says
+/// how much it takes; that is by what the records hold and leave, and never by a number that stands in them.
 pub fn audit<A: Allocator + Copy>(alloc: A, bytes: &[u8]) -> Result<Verdict, NoMemory>
     ensures found { IfOk result (λ verdict. IsVerdict A bytes.now verdict) }
     ensures only { (v : Verdict) → IsVerdict A bytes.now v → IfOk result (λ verdict. verdict ≡ v) }

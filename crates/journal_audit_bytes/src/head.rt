@@ -182,7 +182,7 @@ pub fn read_head<A: Allocator + Copy>(
     ensures only { (version : Version) (s : Settings) (text rest : List ℕ) → SpellsHead version s text →
         bytes.now ≡ text ++ rest →
         Gives {Y = Version × Settings × List ℕ} (λ x. (x.0, x.1, x.2.now)) result (Some (version, s, rest)) }
-    // Memory is asked for lists alone, of which the limits of the users are the first.
+    // Memory is told only of bytes that begin with a mark, the size of the pool and the limits of the users.
     ensures memory { OnMemory result (BeginWithUsers bytes.now) }
     // A head of a version has one spelling.
     ensures one { (version : Version) (s : Settings) (a b : List ℕ) → SpellsHead version s a →

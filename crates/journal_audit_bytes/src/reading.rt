@@ -257,7 +257,7 @@ pub fn read_record<A: Allocator + Copy>(
     // What is spelled so is read, unless memory was refused: the bytes are torn only where they begin with no record.
     ensures only { (r : Raw) (text rest : List ℕ) → Spells version passes r text → bytes.now ≡ text ++ rest →
         Gives {Y = Raw × List ℕ} (λ x. (raw_of x.0, x.1.now)) result (Some (r, rest)) }
-    // Memory is asked for lists alone, and for none but those that are whole and not empty.
+    // Memory is told only where a list that is whole and not empty stands: the event's, or one of frames.
     ensures memory { OnMemory result (BeginWithList version passes bytes.now) }
     // A record has one spelling.
     ensures one { (r : Raw) (a b : List ℕ) → Spells version passes r a → Spells version passes r b → a ≡ b }

@@ -52,23 +52,22 @@ module _ {E : Type 0} where
     pub noted : w.empty_lane ≡ lane
     pub upper : lane ≢ 0
 
-  -- The pass never had a lane to read, nor all lanes to write: no take to read had a share, and none to write the last
-  -- lane.
+  -- no take of the pass to read had a share, and none to write the last lane
   pub record HadNone (v w : View E) : Type 0 where
     pub reads : w.reads ≡ v.reads
     pub writes : w.writes ≡ v.writes
 
-  -- once it had a lane to read, and never all lanes to write
+  -- one take to read had a share, and none to write the last lane
   pub record HadLane (v w : View E) : Type 0 where
     pub reads : w.reads ≡ v.reads + 1
     pub writes : w.writes ≡ v.writes
 
-  -- once it had all lanes to write, and never a lane to read
+  -- one take to write had the last lane, and none to read a share
   pub record HadAll (v w : View E) : Type 0 where
     pub reads : w.reads ≡ v.reads
     pub writes : w.writes ≡ v.writes + 1
 
-  -- it never had a lane to read, however often it had all lanes to write
+  -- no take to read had a share, however often one to write had the last lane
   abbrev pub HadNoLane : View E → View E → Type 0
   HadNoLane v w = w.reads ≡ v.reads
 

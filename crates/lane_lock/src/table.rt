@@ -49,7 +49,7 @@ pub struct View<E> {
     pub empty_lane: u64,
     /// How many takes to read had a share.
     pub reads: u64,
-    /// How many takes to write had the last lane. A writer takes the lanes upwards, so it then has all of them.
+    /// How many takes to write had the last lane. `start_write` takes them upwards, so it then has all of them.
     pub writes: u64,
 }
 

@@ -18,7 +18,7 @@ impl<K: Kept> LaneLock<K> {
 
     /// Takes the lane of the pass to read, without waiting. Refused as Busy where the lane is held, and as Shared
     /// where it is empty: then nothing was seen, and the pass holds what it held. Where it answers a guard it had a
-    /// lane to read once, and never all lanes to write.
+    /// share to read once, and never took the last lane to write.
     pub fn try_read<'a>(&'a self, pass: &'a mut Pass<K>) -> Result<ReadGuard<'a, K>, NotNow>
         requires { Owns self.now pass.old }
         ensures* refused { sem 𝓛
@@ -35,8 +35,8 @@ impl<K: Kept> LaneLock<K> {
     }
 
     /// Takes all lanes to write, from 0 upwards, without waiting. Refused as Busy at the first lane that is held:
-    /// then those that were taken are put back, and the pass holds what it held. Where it answers a guard it had all
-    /// lanes once, and never a lane to read.
+    /// then those that were taken are put back, and the pass holds what it held. Where it answers a guard it took the
+    /// last lane once, and never had a share to read.
     pub fn try_write<'a>(&'a self, pass: &'a mut Pass<K>) -> Result<WriteGuard<'a, K>, Busy>
         requires { Owns self.now pass.old }
         ensures* refused { sem 𝓛

@@ -13,7 +13,7 @@ use std::sync::Wait;
 use std::thread;
 
 impl<K: Kept> LaneLock<K> {
-    /// Takes the lane of the pass to read. It tries again while the lane is held, or empty, and has it once.
+    /// Takes the lane of the pass to read. It tries again while the lane is held, or empty, and has a share once.
     pub fn read<'a, R: Wait>(&'a self, rt: &R, pass: &'a mut Pass<K>) -> ReadGuard<'a, K>
         requires { Owns self.now pass.old }
         ensures same_reference { result.pass.ghost_name ≡ pass.entry.ghost_name }
@@ -33,7 +33,7 @@ impl<K: Kept> LaneLock<K> {
     }
 
     /// Takes all lanes to write. It tries again while one of them is held, and puts those that it took back
-    /// meanwhile. It has all of them once.
+    /// meanwhile. It takes the last of them once.
     pub fn write<'a, R: Wait>(&'a self, rt: &R, pass: &'a mut Pass<K>) -> WriteGuard<'a, K>
         requires { Owns self.now pass.old }
         ensures same_reference { result.pass.ghost_name ≡ pass.entry.ghost_name }

@@ -96,7 +96,7 @@ module _ {A : Type 0} where
       pub makes : Makes settings p (record { event = e; via = None }) stamp q
       pub answers : AnswersEvent e stamp.reply answer
 
-    -- no record was made, and the pass had its lane once; the ranges are those after all records that it has then seen
+    -- no record was made, and the pass had a share once; the ranges are those after all records that it has then seen
     pub record IsTold (settings : Settings) (p : CorePass A g) (file : FileNo) (request : RangesRequest)
         (answer : IoctlAnswer A) (q : CorePass A g) : Type 0 where
       pub sees : OnlySees (view_of p) (view_of q)
@@ -105,7 +105,7 @@ module _ {A : Type 0} where
       pub seen : HasSeen settings q records
       pub answers : AnswersRanges (history_of settings records) file request answer
 
-    -- no record was made, and the pass had its lane once; the report is of all records that it has then seen
+    -- no record was made, and the pass had a share once; the report is of all records that it has then seen
     pub record IsReported (settings : Settings) (p : CorePass A g) (file : FileNo) (request : DirtyRequest)
         (answer : IoctlAnswer A) (q : CorePass A g) : Type 0 where
       pub sees : OnlySees (view_of p) (view_of q)

@@ -55,7 +55,7 @@ module _ {A : Type 0} {g : CoreGhosts A} where
     pub by : ReadBy settings records device (record { 0 = address }) len finds.translation told
 
   -- The device's read of so many bytes at the address is answered so, after all records that the pass has then seen;
-  -- these begin with what it had seen before, and it made none and had its lane once. The port, which may keep so many
+  -- these begin with what it had seen before, and it made none and had a share once. The port, which may keep so many
   -- pages, keeps what the read found.
   pub record IsReadSo (settings : Settings) (device : DeviceNo) (most address len : ℕ) (p : Standing A g) (told : Answer)
       (q : Standing A g) : Type 0 where
@@ -73,7 +73,7 @@ module _ {A : Type 0} {g : CoreGhosts A} where
     pub at : piece.at ≡ None
 
   -- So many bytes have been read, and stand in the buffer in place of the old ones; the others are the old ones. Since
-  -- the last of them the pass had no lane.
+  -- the last of them the pass had no share to read, and not the last lane to write.
   pub record HasRead (settings : Settings) (device : DeviceNo) (most address : ℕ) (old : List ℕ) (p : Standing A g)
       (done : ℕ) (q : Standing A g) (new : List ℕ) : Type 0 where
     pub pieces : List (Piece A g)

@@ -32,7 +32,7 @@ module _ {A : Type 0} {g : CoreGhosts A} where
     pub backed : IfSome finds.translation (IsGood (history_of settings records) device (page_of address))
 
   -- The device's page at the address is translated so, after all records that the pass has then seen; these begin with
-  -- what it had seen before, and it made none and had its lane once. The port, which may keep so many pages, keeps what
+  -- what it had seen before, and it made none and had a share once. The port, which may keep so many pages, keeps what
   -- was found.
   pub record IsTranslatedSo (settings : Settings) (device : DeviceNo) (most address : ℕ) (kind : AccessKind)
       (p : Standing A g) (told : Option Translation) (q : Standing A g) : Type 0 where

@@ -55,7 +55,7 @@ module _ {A : Type 0} {g : CoreGhosts A} where
     pub written : IsWrittenSo settings device most address piece.bytes p (reply.Passed frame) piece.at piece.after
 
   -- So many of the bytes have been written, and the last record of these pieces stands at this place. Since then the
-  -- pass had no lane to read.
+  -- pass had no share to read.
   pub record HasWritten (settings : Settings) (device : DeviceNo) (most address : ℕ) (bytes : List ℕ) (p : Standing A g)
       (done : ℕ) (q : Standing A g) (last : Option ℕ) : Type 0 where
     pub pieces : List (Piece A g)

@@ -44,8 +44,8 @@ module _ {A : Type 0} {g : CoreGhosts A} where
     pub seen : HasSeen settings p records
     pub tells : TellsNotices (history_of settings records) file access answer
 
-  -- the same of a question that doesn't wait: no lane was met held, and the pass had its lane once; or that was held or
-  -- empty, the pass has seen no more, and that isn't told as a failure
+  -- the same of a question that doesn't wait: no lane was met held, and the pass had a share once; or its lane was held
+  -- or empty, the pass has seen no more, and that isn't told as a failure
   abbrev pub AreTriedNotices : Settings → CorePass A g → CorePass A g → FileNo → ObjId
       → Result (Vec Bounds A) (TryError CallError) → Type 0
   AreTriedNotices settings p q file access (Ok spans) =
