@@ -95,7 +95,7 @@ enum defnulk_cause {
     DEFNULK_CAUSE_NO_RIGHT = 21, /* EINVAL: neither READABLE nor WRITEABLE */
     DEFNULK_CAUSE_RESERVED = 22, /* EINVAL: a fixed span outside the usable ranges */
     DEFNULK_CAUSE_FULL = 23, /* ENOSPC: no room for a chosen address, or a limit reached */
-    DEFNULK_CAUSE_LIST = 24, /* EINVAL: an allowed range that doesn't begin below its last address, or two that overlap */
+    DEFNULK_CAUSE_LIST = 24, /* EINVAL: allowed ranges that overlap, or don't begin below their last address */
     DEFNULK_CAUSE_PLACES = 25, /* EMSGSIZE: fewer places than ranges */
     DEFNULK_CAUSE_CROSS = 26, /* EINVAL: an access of 0 or more than 64 bytes, or across a page */
     DEFNULK_CAUSE_INTERRUPT_RANGE = 27, /* EINVAL: an access of an x86 device to its interrupt range */
@@ -350,17 +350,17 @@ static inline int32_t defnulk_close(struct defnulk_handle *handle) {
 
 /* ---- Calls of callers */
 
-/* Carries out a call of ioctl that the file makes with this number (0x3b80 to 0x3b86 and 0x3b89 of linux/iommufd.h, 0x3bf0
-   and 0x3bf1, DIRTY_ENABLE and DIRTY_REPORT, of Defnulk's own: docs/SCRIPT.md has their structures) and these bytes:
-   the kernel's own structure, and behind it the array that the kernel reads by a pointer (struct iommu_iova_range of
-   IOAS_ALLOW_IOVAS). Pointers in the structure are ignored. What the kernel writes back, the structure with its
-   answer, and behind it the array of IOAS_IOVA_RANGES or the words of a DIRTY_REPORT, stands at the front of `room`,
-   and `written` says how many bytes that is: at most 64, but for IOAS_IOVA_RANGES 32 and 16 for each range that it
-   was given a place for; what of it `room` has no place for isn't written. The rest of `room` stays. 0, or the errno
-   that the kernel's call has, DEFNULK_NOT_NOW, -EBADF, -ENOMEM (a refusal of the server, too: then a limit of pinned
-   pages or the pool is at its end); -EINVAL where the room has less than DEFNULK_LEAST_ROOM bytes. An UNMAP that has
-   to wait for a device is -EAGAIN, or -EDEADLK after a hundred tries: it is called again once the device's port was
-   flushed. Each call makes a record, a refused one and each try of an UNMAP too, but for IOAS_IOVA_RANGES, a
+/* Carries out a call of ioctl that the file makes with this number (0x3b80 to 0x3b86 and 0x3b89 of linux/iommufd.h,
+   0x3bf0 and 0x3bf1, DIRTY_ENABLE and DIRTY_REPORT, of Defnulk's own: docs/SCRIPT.md has their structures) and these
+   bytes: the kernel's own structure, and behind it the array that the kernel reads by a pointer (struct
+   iommu_iova_range of IOAS_ALLOW_IOVAS). Pointers in the structure are ignored. What the kernel writes back, the
+   structure with its answer, and behind it the array of IOAS_IOVA_RANGES or the words of a DIRTY_REPORT, stands at the
+   front of `room`, and `written` says how many bytes that is: at most 64, but for IOAS_IOVA_RANGES 32 and 16 for each
+   range that it was given a place for; what of it `room` has no place for isn't written. The rest of `room` stays. 0,
+   or the errno that the kernel's call has, DEFNULK_NOT_NOW, -EBADF, -ENOMEM (a refusal of the server, too: then a limit
+   of pinned pages or the pool is at its end); -EINVAL where the room has less than DEFNULK_LEAST_ROOM bytes. An UNMAP
+   that has to wait for a device is -EAGAIN, or -EDEADLK after a hundred tries: it is called again once the device's
+   port was flushed. Each call makes a record, a refused one and each try of an UNMAP too, but for IOAS_IOVA_RANGES, a
    DIRTY_REPORT that doesn't clear, bytes that spell no command, and want of memory. */
 static inline int32_t defnulk_ioctl(struct defnulk_handle *handle, uint16_t file, uint32_t number, const void *bytes,
                                     size_t len, void *room, size_t room_len, size_t *written) {
