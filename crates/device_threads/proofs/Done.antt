@@ -5,7 +5,7 @@ use Rattle.iofd_words.specs.Settings.{Settings}
 use Rattle.iofd_words.specs.declared.event.Event.{Event}
 use Rattle.iofd_words.specs.declared.refusal.NoMemory.{NoMemory}
 use Rattle.iommufd_core.specs.declared.apply.Stamp.{Stamp}
-use Rattle.lane_lock.specs.Outcomes.{OnlySees}
+use Rattle.lane_lock.specs.Outcomes.{HadNoLane, OnlySees}
 use Rattle.lane_lock.specs.Passes.{view_of}
 use Rattle.guarded_core.specs.Passes.{CoreGhosts}
 use Rattle.shared_iommufd.specs.Made.{Makes, act_of, place_of}
@@ -29,11 +29,12 @@ module _ {A : Type 0} {g : CoreGhosts A} where
   -- a call of a port that makes one record, or none for want of memory
   pub turns : (settings : Settings) (e : Event A) (p q : CorePort A g) (made : Result Stamp NoMemory)
       → IfOk made (λ stamp. Makes settings p.pass (act_of e) stamp q.pass)
-      → OnErr made (OnlySees (view_of p.pass) (view_of q.pass)) → q.last ≡ place_of made
+      → OnErr made (OnlySees (view_of p.pass) (view_of q.pass)) → HadNoLane (view_of p.pass) (view_of q.pass)
+      → q.last ≡ place_of made
       → Turns settings e p (told_of made) q
-  turns settings e p q (Ok stamp) makes none last =
+  turns settings e p q (Ok stamp) makes none had last =
       record { stamp = stamp; makes = makes; reply = refl; last = last }
-  turns settings e p q (Err no_memory) makes none last = (none, last)
+  turns settings e p q (Err no_memory) makes none had last = (none, (had, last))
 
 module _ {A : Type 0} {g : CoreGhosts A} (settings : Settings) (lanes : ℕ) (port : CorePort A g) (jobs : List Job) where
   -- whatever comes of the jobs that are left, all jobs have the results so far and that

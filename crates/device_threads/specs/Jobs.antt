@@ -7,7 +7,7 @@ use Rattle.iofd_words.specs.declared.record.Record.{Record}
 use Rattle.iofd_words.specs.declared.refusal.NoMemory.{NoMemory}
 use Rattle.iofd_words.specs.declared.reply.Reply.{Reply}
 use Rattle.iommufd_core.specs.declared.apply.Stamp.{Stamp}
-use Rattle.lane_lock.specs.Outcomes.{OnlySees}
+use Rattle.lane_lock.specs.Outcomes.{HadNoLane, OnlySees}
 use Rattle.lane_lock.specs.Passes.{view_of}
 use Rattle.guarded_core.specs.Passes.{CoreGhosts}
 use Rattle.shared_iommufd.specs.Made.{Makes, act_of}
@@ -51,10 +51,11 @@ module _ {A : Type 0} {g : CoreGhosts A} where
     pub reply : stamp.reply ≡ told
     pub last : q.last ≡ Some stamp.at
 
-  -- it made that record, or for want of memory none
+  -- it made that record, or for want of memory none, and then it had no share to look into
   abbrev pub Turns : Settings → Event A → CorePort A g → Result Reply NoMemory → CorePort A g → Type 0
   Turns settings e p (Ok told) q = IsTurn settings e p told q
-  Turns settings e p (Err no_memory) q = OnlySees (view_of p.pass) (view_of q.pass) × (q.last ≡ None)
+  Turns settings e p (Err no_memory) q =
+      OnlySees (view_of p.pass) (view_of q.pass) × HadNoLane (view_of p.pass) (view_of q.pass) × (q.last ≡ None)
 
   -- The port did the job, and this came of it. Before each of its turns it forgets what it keeps.
   abbrev pub ComesOf : Settings → ℕ → CorePort A g → Job → Outcome → CorePort A g → Type 0

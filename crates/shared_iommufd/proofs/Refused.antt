@@ -13,7 +13,7 @@ use Rattle.lane_lock.specs.Views.{IsBlank}
 use Rattle.lane_lock.proofs.Retries.{none_had}
 use Rattle.guarded_core.specs.Passes.{CoreGhosts, CorePass}
 use Rattle.guarded_core.specs.declared.try_error.TryError.TheVariants as tried
-use Rattle.shared_iommufd.specs.Ioctls.{RefusesAsked}
+use Rattle.shared_iommufd.specs.Ioctls.{FailsAsked, RefusesAsked}
 use Rattle.shared_iommufd.proofs.Shown.{sees_same}
 
 module _ {A : Type 0} where
@@ -32,3 +32,9 @@ module _ {A : Type 0} {g : CoreGhosts A} where
   asked_in_vain lanes lane (asks.Event e) p blank error = (sees_same p, refl, blank, inl (none_had (view_of p)))
   asked_in_vain lanes lane (asks.Ranges request) p blank error = (sees_same p, refl, inl (none_had (view_of p)))
   asked_in_vain lanes lane (asks.Dirty request) p blank error = (sees_same p, refl, inl (none_had (view_of p)))
+
+  -- and no lane was asked for
+  pub failed_in_vain : (what : Asked A) (p : CorePass A g) → FailsAsked what (view_of p) (view_of p)
+  failed_in_vain (asks.Event e) p = refl
+  failed_in_vain (asks.Ranges request) p = inl (none_had (view_of p))
+  failed_in_vain (asks.Dirty request) p = inl (none_had (view_of p))

@@ -32,7 +32,7 @@ use Rattle.ioctl_codec.specs.declared.events.Asked.TheVariants as asks
 use Rattle.iommufd_core.specs.History.{History, world}
 use Rattle.iommufd_core.specs.declared.apply.Stamp.{Stamp}
 use Rattle.iova_ranges.specs.declared.range_set.RangeSet.{RangeSet}
-use Rattle.lane_lock.specs.Outcomes.{HadLane, HadNone, MetNone, OnlySees, RefusesRead}
+use Rattle.lane_lock.specs.Outcomes.{HadLane, HadNoLane, HadNone, MetNone, OnlySees, RefusesRead}
 use Rattle.lane_lock.specs.Passes.{view_of}
 use Rattle.lane_lock.specs.declared.table.View.{View}
 use Rattle.guarded_core.specs.Entries.{history_of}
@@ -155,3 +155,16 @@ abbrev pub RefusesIoctl : (A : Type 0) → {E : Type 0} → FileNo → ℕ → L
 RefusesIoctl A file number bytes lanes lane v w error =
     (codec.refusal number bytes ≡ None)
     × ((command : Command A) × Spells number bytes command × RefusesAsked lanes lane (asked file command) v w error)
+
+-- What a command asks for isn't carried out by a call that waits, for want of memory: no share was had for an event, and
+-- for a question at most one, and not all lanes.
+abbrev pub FailsAsked : {A E : Type 0} → Asked A → View E → View E → Type 0
+FailsAsked (asks.Event e) v w = HadNoLane v w
+FailsAsked (asks.Ranges request) v w = HadNone v w ⊎ HadLane v w
+FailsAsked (asks.Dirty request) v w = HadNone v w ⊎ HadLane v w
+
+-- A call of ioctl of the file that waits isn't carried out: its bytes spell a command, and for what this asks for memory
+-- was wanting.
+abbrev pub FailsIoctl : (A : Type 0) → {E : Type 0} → FileNo → ℕ → List ℕ → View E → View E → Type 0
+FailsIoctl A file number bytes v w =
+    (command : Command A) × Spells number bytes command × FailsAsked (asked file command) v w

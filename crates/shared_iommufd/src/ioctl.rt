@@ -153,6 +153,7 @@ impl<A: Allocator + Copy> Server<A> {
     ghost use Rattle.lane_lock.specs.Outcomes.{HadLane, HadNoLane, HadNone, MetNone, OnlySees};
     ghost use Rattle.lane_lock.specs.Passes.{SamePass, lane_of, lanes_of, view_of};
     ghost use Rattle.guarded_core.specs.Guarded.{RefusesCommit};
+    ghost use Rattle.shared_iommufd.specs.Ioctls.{FailsAsked, FailsIoctl};
     ghost use Rattle.shared_iommufd.specs.Ioctls.{IsDecoded, IsMade, IsReported, IsServed, IsTold};
     ghost use Rattle.shared_iommufd.specs.Ioctls.{RefusesAsked, RefusesIoctl, RefusesLook};
     ghost use Rattle.shared_iommufd.specs.Servers.{IsPassOf, settings_of};
@@ -179,8 +180,7 @@ impl<A: Allocator + Copy> Server<A> {
             IsDecoded (settings_of self.now) pass.old file number bytes.now answer pass.new) }
         ensures spelt { OnErr result (refusal number bytes.now ≡ None) }
         ensures none { OnErr result (OnlySees (view_of pass.old) (view_of pass.new)) }
-        ensures had { OnErr result (HadNoLane (view_of pass.old) (view_of pass.new)
-            ⊎ HadLane (view_of pass.old) (view_of pass.new)) }
+        ensures had { OnErr result (FailsIoctl A file number bytes.now (view_of pass.old) (view_of pass.new)) }
     {
         match decode(self.alloc, number, bytes) {
             Ok(command) => self.serve(rt, pass, file, command),
@@ -228,8 +228,7 @@ impl<A: Allocator + Copy> Server<A> {
         ensures served { IfOk result (λ answer.
             IsServed (settings_of self.now) pass.old file (asked file command) answer pass.new) }
         ensures none { OnErr result (OnlySees (view_of pass.old) (view_of pass.new)) }
-        ensures had { OnErr result (HadNoLane (view_of pass.old) (view_of pass.new)
-            ⊎ HadLane (view_of pass.old) (view_of pass.new)) }
+        ensures had { OnErr result (FailsAsked (asked file command) (view_of pass.old) (view_of pass.new)) }
     {
         match command.asked(file) {
             Asked::Event(event) => self.answer_event(rt, pass, event),

@@ -27,7 +27,8 @@ returns-in-Flush-clause-comes g c =
     let made = c.flush.ensures in
     subst (λ (x : Job × Outcome). ComesOf s (lanes_of a.server.now.lock) a.port.now x.0 x.1 c.flush.new.self)
     (λ i. (sym c.in-Flush.is i, sym c.turned.ensures i)) (
-      turns s (event.Flush a.port.now.device) a.port.now c.flush.new.self c.flush.result made.made made.none made.last,
+      turns s (event.Flush a.port.now.device) a.port.now c.flush.new.self c.flush.result made.made made.none made.had
+          made.last,
       made.empty,
     )
 
@@ -39,7 +40,7 @@ returns-in-Attach-clause-comes g c =
     subst (λ (x : Job × Outcome). ComesOf s (lanes_of a.server.now.lock) a.port.now x.0 x.1 c.attach.new.self)
     (λ i. (sym c.in-Attach.is i, sym c.turned-in-Attach.ensures i)) (
       turns s (event.Attach a.port.now.device c.in-Attach.pt_id) a.port.now c.attach.new.self c.attach.result made.made
-          made.none made.last,
+          made.none made.had made.last,
       made.empty,
     )
 
@@ -51,6 +52,6 @@ returns-in-Detach-clause-comes g c =
     subst (λ (x : Job × Outcome). ComesOf s (lanes_of a.server.now.lock) a.port.now x.0 x.1 c.detach.new.self)
     (λ i. (sym c.in-Detach.is i, sym c.turned-in-Detach.ensures i)) (
       turns s (event.Detach a.port.now.device) a.port.now c.detach.new.self c.detach.result made.made made.none
-          made.last,
+          made.had made.last,
       made.empty,
     )
