@@ -3,13 +3,13 @@
  * A server has a pool of frames (pages of 4096 bytes, counted from 0), users whose memory is mapped (from 1), open
  * iommufd files, each of a user (from 1), and devices behind an IOMMU (from 1). Those who call it do so by handles:
  * a caller's, or the port of a device. A handle has a share of the server and a pass. All calls of all handles make
- * one history of records: a call that changes something makes one, or none.
+ * one history of records: a call that changes something makes one, or none, and a port's write one for each piece.
  *
  * RESULTS. Each call answers an int32_t: 0, or the negative number of an errno (-EINVAL), or DEFNULK_NOT_NOW: it can't
  * be served now, as where another call is on the way; it made no record, and has to be made again (of a port's read or
- * write the rest; and a port's flush, attach or detach has emptied its cache all the same). No call waits.
+ * write the rest). No call waits. A port's flush, attach or detach empties the port's cache first, however it ends.
  * What else a call tells stands in a struct defnulk_outcome. Where outcome.cause and outcome.fault are 0, these
- * errnos are the library's own, and the call did nothing:
+ * errnos are the library's own, and the call made no record:
  *
  *   -EBADF    the handle is closed, or of the other kind (a port's where a caller's is asked for, or a caller's)
  *   -ENOMEM   there was no memory
@@ -140,8 +140,8 @@ struct defnulk_hwpt_alloc { uint32_t size, flags, dev_id, pt_id, out_hwpt_id, re
 struct defnulk_dirty_enable { uint32_t size, hwpt_id, flags, reserved; };
 struct defnulk_dirty_report { uint32_t size, hwpt_id, flags, reserved; uint64_t iova, length; };
 
-/* What a call tells beside its result. Each call that takes one writes it, unless a null pointer, a length or an
-   overlap is refused before: then it stays as it was. */
+/* What a call tells beside its result. Each call that takes one writes it, all zeros where there is nothing to tell; it
+   stays as it was where it is null itself, an array is longer than PTRDIFF_MAX bytes, or something overlaps. */
 struct defnulk_outcome {
     uint64_t at;    /* the place of the last record that it made, counted from 0, where made is 1 */
     uint64_t value; /* the number that it answers, as each call says; or 0 */
@@ -273,7 +273,7 @@ static inline const uint8_t *defnulk_bytes(const void *at) {
 }
 
 /* Tests a handle, an array of bytes and a place for the outcome: 0, -EFAULT for a null, -EINVAL for what is too long or
-   overlaps. The outcome stays as it was then. */
+   overlaps, and then the outcome stays as it was; else it is all zeros. */
 static inline int32_t defnulk_test(const struct defnulk_handle *handle, const void *array, size_t len,
                                    struct defnulk_outcome *out) {
     static const struct defnulk_outcome nothing = { 0, 0, 0, 0, 0 };
@@ -353,15 +353,15 @@ static inline int32_t defnulk_close(struct defnulk_handle *handle) {
 /* Carries out a call of ioctl that the file makes with this number (0x3b80 to 0x3b86 and 0x3b89 of linux/iommufd.h,
    0x3bf0 and 0x3bf1, DIRTY_ENABLE and DIRTY_REPORT, of Defnulk's own: docs/SCRIPT.md has their structures) and these
    bytes: the kernel's own structure, and behind it the array that the kernel reads by a pointer (struct
-   iommu_iova_range of IOAS_ALLOW_IOVAS). Pointers in the structure are ignored. What the kernel writes back, the
-   structure with its answer, and behind it the array of IOAS_IOVA_RANGES or the words of a DIRTY_REPORT, stands at the
-   front of `room`, and `written` says how many bytes that is: at most 64, but for IOAS_IOVA_RANGES 32 and 16 for each
-   range that it was given a place for; what of it `room` has no place for isn't written. The rest of `room` stays. 0,
-   or the errno that the kernel's call has, DEFNULK_NOT_NOW, -EBADF, -ENOMEM (a refusal of the server, too: then a limit
-   of pinned pages or the pool is at its end); -EINVAL where the room has less than DEFNULK_LEAST_ROOM bytes. An UNMAP
-   that has to wait for a device is -EAGAIN, or -EDEADLK after a hundred tries: it is called again once the device's
-   port was flushed. Each call makes a record, a refused one and each try of an UNMAP too, but for IOAS_IOVA_RANGES, a
-   DIRTY_REPORT that doesn't clear, bytes that spell no command, and want of memory. */
+   iommu_iova_range of IOAS_ALLOW_IOVAS). Pointers in the structure are ignored, and come back 0. What the kernel writes
+   back, the structure with its answer, and behind it the array of IOAS_IOVA_RANGES or the words of a DIRTY_REPORT,
+   stands at the front of `room`, and `written` says how many bytes that is: at most 64, but for IOAS_IOVA_RANGES 32 and
+   16 for each range that it was given a place for; what of it `room` has no place for isn't written. The rest of `room`
+   stays. 0, or the errno that the kernel's call has, DEFNULK_NOT_NOW, -EBADF, -ENOMEM (a refusal of the server, too:
+   then a limit of pinned pages or the pool is at its end); -EINVAL where the room has less than DEFNULK_LEAST_ROOM
+   bytes. An UNMAP that has to wait for a device is -EAGAIN, or -EDEADLK after a hundred tries: it is called again once
+   the device's port was flushed. Each call makes a record, a refused one and each try of an UNMAP too, but for
+   IOAS_IOVA_RANGES, a DIRTY_REPORT that doesn't clear, bytes that spell no command, and want of memory. */
 static inline int32_t defnulk_ioctl(struct defnulk_handle *handle, uint16_t file, uint32_t number, const void *bytes,
                                     size_t len, void *room, size_t room_len, size_t *written) {
     if (handle == NULL || (bytes == NULL && len > 0) || room == NULL || written == NULL)
@@ -562,21 +562,21 @@ static inline int32_t defnulk_port_translate(struct defnulk_handle *handle, uint
     return defnulk_raw_port_translate(handle, iova, write, translation);
 }
 
-/* The device has forgotten what it had cached, and so does the port, also where the call isn't served now: what an
-   UNMAP waits for on its account is done. */
+/* The device has forgotten what it had cached, and so does the port, however the call ends: what an UNMAP waits for on
+   the device's account is done where it answers 0. */
 static inline int32_t defnulk_port_flush(struct defnulk_handle *handle, struct defnulk_outcome *out) {
     int32_t fit = defnulk_test(handle, NULL, 0, out);
     return fit != 0 ? fit : defnulk_raw_port_flush(handle, out);
 }
 
 /* Attaches the device to the address space or the hardware page table of this id, in the file that it is bound to. The
-   value is the id of the page table used. The port forgets all pages, also where the call isn't served now. */
+   value is the id of the page table used. The port forgets all pages, however the call ends. */
 static inline int32_t defnulk_port_attach(struct defnulk_handle *handle, uint32_t pt_id, struct defnulk_outcome *out) {
     int32_t fit = defnulk_test(handle, NULL, 0, out);
     return fit != 0 ? fit : defnulk_raw_port_attach(handle, pt_id, out);
 }
 
-/* Ends the device's attachment. The port forgets all pages, also where the call isn't served now. */
+/* Ends the device's attachment. The port forgets all pages, however the call ends. */
 static inline int32_t defnulk_port_detach(struct defnulk_handle *handle, struct defnulk_outcome *out) {
     int32_t fit = defnulk_test(handle, NULL, 0, out);
     return fit != 0 ? fit : defnulk_raw_port_detach(handle, out);

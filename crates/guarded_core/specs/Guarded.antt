@@ -1,8 +1,8 @@
 -- What a pass has seen and made once its guard is gone, over any kept value.
-use Rattle.std.specs.Prelude.{◌≡◌, ◌⊎◌, ℕ, [], ◌∷◌, ◌++◌, length, drop}
+use Rattle.std.specs.Prelude.{◌≡◌, ℕ, [], ◌∷◌, ◌++◌, length, drop}
 use Rattle.iofd_words.specs.declared.refusal.NoMemory.{NoMemory}
 use Rattle.lane_lock.specs.History.{Legal, StartsWith, made_by}
-use Rattle.lane_lock.specs.Outcomes.{HadAll, HadNone, MetNone, OnlySees, RefusesWrite}
+use Rattle.lane_lock.specs.Outcomes.{HadAll, MetNone, OnlySees, RefusesWrite}
 use Rattle.lane_lock.specs.Passes.{number_of, opening_of, view_of}
 use Rattle.lane_lock.specs.Views.{IsBlank}
 use Rattle.lane_lock.specs.declared.kept.Kept as kept
@@ -42,10 +42,9 @@ module _ {K A S E : Type 0} {g : kept.Ghosts K A S E} where
     pub own : (view_of q).made ≡ (view_of p).made ++ entry ∷ []
     pub home : IsBlank (view_of q)
 
--- Nothing was made, where so many lanes are: one of them was met held; or none was, and a share of the value was still
--- held elsewhere, or memory was wanting, and all lanes are home again. The pass had all lanes at most once.
+-- Nothing was made, where so many lanes are: one of them was met held; or none was, the pass had all lanes once, and a
+-- share of the value was still held elsewhere, or memory was wanting, and all lanes are home again.
 abbrev pub RefusesCommit : {E : Type 0} → ℕ → View E → View E → TryError NoMemory → Type 0
 RefusesCommit lanes v w (tried.NotNow (refusal.Busy busy)) = RefusesWrite v w lanes busy
 RefusesCommit lanes v w (tried.NotNow Shared) = OnlySees v w × MetNone v w × IsBlank w × HadAll v w
-RefusesCommit lanes v w (tried.Call no_memory) =
-    OnlySees v w × MetNone v w × IsBlank w × (HadNone v w ⊎ HadAll v w)
+RefusesCommit lanes v w (tried.Call no_memory) = OnlySees v w × MetNone v w × IsBlank w × HadAll v w

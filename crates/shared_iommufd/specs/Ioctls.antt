@@ -32,8 +32,9 @@ use Rattle.ioctl_codec.specs.declared.events.Asked.TheVariants as asks
 use Rattle.iommufd_core.specs.History.{History, world}
 use Rattle.iommufd_core.specs.declared.apply.Stamp.{Stamp}
 use Rattle.iova_ranges.specs.declared.range_set.RangeSet.{RangeSet}
-use Rattle.lane_lock.specs.Outcomes.{HadLane, HadNoLane, HadNone, MetNone, OnlySees, RefusesRead}
+use Rattle.lane_lock.specs.Outcomes.{HadAll, HadLane, HadNoLane, HadNone, MetNone, OnlySees, RefusesRead}
 use Rattle.lane_lock.specs.Passes.{view_of}
+use Rattle.lane_lock.specs.Views.{IsBlank}
 use Rattle.lane_lock.specs.declared.table.View.{View}
 use Rattle.guarded_core.specs.Entries.{history_of}
 use Rattle.guarded_core.specs.Guarded.{RefusesCommit}
@@ -141,10 +142,17 @@ abbrev pub RefusesLook : {E : Type 0} → ℕ → View E → View E → TryError
 RefusesLook lane v w (tried.NotNow refused) = RefusesRead v w lane refused
 RefusesLook lane v w (tried.Call no_memory) = OnlySees v w × MetNone v w × (HadNone v w ⊎ HadLane v w)
 
+-- An event isn't carried out, where so many lanes are: it is refused as a commit is; or memory was wanting for its answer,
+-- before a lane was asked for.
+abbrev pub RefusesEvent : {E : Type 0} → ℕ → View E → View E → TryError NoMemory → Type 0
+RefusesEvent lanes v w (tried.NotNow refused) = RefusesCommit lanes v w (tried.NotNow refused)
+RefusesEvent lanes v w (tried.Call no_memory) =
+    OnlySees v w × MetNone v w × IsBlank w × (HadNone v w ⊎ HadAll v w)
+
 -- What a command asks for isn't carried out by a call of this lane, where so many lanes are, and nothing was made: an
--- event is refused as a commit is, a question as a look is.
+-- event is refused as a commit is, or for its answer, a question as a look is.
 abbrev pub RefusesAsked : {A E : Type 0} → ℕ → ℕ → Asked A → View E → View E → TryError NoMemory → Type 0
-RefusesAsked lanes lane (asks.Event e) v w error = RefusesCommit lanes v w error
+RefusesAsked lanes lane (asks.Event e) v w error = RefusesEvent lanes v w error
 RefusesAsked lanes lane (asks.Ranges request) v w error = RefusesLook lane v w error
 RefusesAsked lanes lane (asks.Dirty request) v w error = RefusesLook lane v w error
 

@@ -10,7 +10,7 @@ use Rattle.iofd_words.specs.declared.numbers.FrameNo.{FrameNo}
 use Rattle.iofd_words.specs.declared.reply.Reply.{Reply}
 use Rattle.iofd_words.specs.declared.reply.Reply.TheVariants as reply
 use Rattle.iommufd_core.specs.declared.apply.Stamp.{Stamp}
-use Rattle.lane_lock.specs.Outcomes.{HadAll, HadNoLane, HadNone, MetNone, OnlySees}
+use Rattle.lane_lock.specs.Outcomes.{HadAll, HadNoLane, MetNone, OnlySees}
 use Rattle.lane_lock.specs.Passes.{SamePass, view_of}
 use Rattle.port_cache.specs.Cached.{Leaves, compared}
 use Rattle.guarded_core.specs.Caches.{found, write_by}
@@ -65,8 +65,8 @@ module _ {A : Type 0} {g : CoreGhosts A} where
     pub ends : last ≡ last_place None pieces
 
   -- Why a piece isn't written: the reply to its record says so; or it made none, for want of memory while no lane was met
-  -- held and all were had at most once, or since the lanes couldn't be had, of which there are so many; then the port
-  -- keeps what it kept.
+  -- held and all were had once, or since the lanes couldn't be had, of which there are so many; then the port keeps what it
+  -- kept.
   abbrev pub DeniesWrite : Settings → ℕ → DeviceNo → ℕ → ℕ → List ℕ → Standing A g → Option ℕ → TryError PortCause
       → Standing A g → Option ℕ → Type 0
   DeniesWrite settings lanes device most address bytes p before (tried.Call (cause.Refused refusal)) q last =
@@ -75,8 +75,7 @@ module _ {A : Type 0} {g : CoreGhosts A} where
       IsWrittenSo settings device most address bytes p (reply.Fault fault) last q
   DeniesWrite settings lanes device most address bytes p before (tried.Call (cause.Memory no_memory)) q last =
       OnlySees (view_of p.pass) (view_of q.pass) × KeepsSame p q × (last ≡ before)
-      × MetNone (view_of p.pass) (view_of q.pass)
-      × (HadNone (view_of p.pass) (view_of q.pass) ⊎ HadAll (view_of p.pass) (view_of q.pass))
+      × MetNone (view_of p.pass) (view_of q.pass) × HadAll (view_of p.pass) (view_of q.pass)
   DeniesWrite settings lanes device most address bytes p before (tried.NotNow refused) q last =
       RefusesCommit lanes (view_of p.pass) (view_of q.pass) (tried.NotNow refused) × KeepsSame p q × (last ≡ before)
 

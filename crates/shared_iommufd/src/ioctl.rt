@@ -152,10 +152,9 @@ impl<A: Allocator + Copy> Server<A> {
     ghost use Rattle.ioctl_codec.specs.Refusals.{refusal};
     ghost use Rattle.lane_lock.specs.Outcomes.{HadLane, HadNoLane, HadNone, MetNone, OnlySees};
     ghost use Rattle.lane_lock.specs.Passes.{SamePass, lane_of, lanes_of, view_of};
-    ghost use Rattle.guarded_core.specs.Guarded.{RefusesCommit};
     ghost use Rattle.shared_iommufd.specs.Ioctls.{FailsAsked, FailsIoctl};
     ghost use Rattle.shared_iommufd.specs.Ioctls.{IsDecoded, IsMade, IsReported, IsServed, IsTold};
-    ghost use Rattle.shared_iommufd.specs.Ioctls.{RefusesAsked, RefusesIoctl, RefusesLook};
+    ghost use Rattle.shared_iommufd.specs.Ioctls.{RefusesAsked, RefusesEvent, RefusesIoctl, RefusesLook};
     ghost use Rattle.shared_iommufd.specs.Servers.{IsPassOf, settings_of};
 
     /// Carries out a call of ioctl that the file makes with this number and these bytes (uapi header `iommufd.h`), once
@@ -291,7 +290,7 @@ impl<A: Allocator + Copy> Server<A> {
         ensures owned { IsPassOf self.now pass.new }
         ensures made { IfOk result (λ answer. IsMade (settings_of self.now) pass.old event answer pass.new) }
         ensures met { IfOk result (λ _. MetNone (view_of pass.old) (view_of pass.new)) }
-        ensures refused { IfErr result (RefusesCommit (lanes_of self.now.lock) (view_of pass.old) (view_of pass.new)) }
+        ensures refused { IfErr result (RefusesEvent (lanes_of self.now.lock) (view_of pass.old) (view_of pass.new)) }
     {
         let Ok(room) = room_for_reply(self.alloc) else {
             return Err(TryError::Call(NoMemory));
