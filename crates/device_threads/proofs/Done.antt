@@ -34,7 +34,7 @@ module _ {A : Type 0} {g : CoreGhosts A} where
       → Turns settings e p (told_of made) q
   turns settings e p q (Ok stamp) makes none had last =
       record { stamp = stamp; makes = makes; reply = refl; last = last }
-  turns settings e p q (Err no_memory) makes none had last = (none, (had, last))
+  turns settings e p q (Err no_memory) makes none had last = (none, had, last)
 
 module _ {A : Type 0} {g : CoreGhosts A} (settings : Settings) (lanes : ℕ) (port : CorePort A g) (jobs : List Job) where
   -- whatever comes of the jobs that are left, all jobs have the results so far and that

@@ -143,7 +143,7 @@ module _ {A : Type 0} {g : CoreGhosts A} (settings : Settings) where
       subst (Grows p.pass q.pass) (sym turns.last)
       (grows_more p.pass p.pass q.pass None (act_of e) turns.stamp (grows_none p.pass) turns.makes)
   grows_turn e p (Err no_memory) q turns =
-      subst (Grows p.pass q.pass) (sym turns.1.1) (grows_later p.pass p.pass q.pass None (grows_none p.pass) turns.0)
+      subst (Grows p.pass q.pass) (sym turns.2) (grows_later p.pass p.pass q.pass None (grows_none p.pass) turns.0)
 
   -- what a job makes
   pub stretch_of : (lanes : ℕ) (p : CorePort A g) (what : Job) (came : Outcome) (q : CorePort A g)

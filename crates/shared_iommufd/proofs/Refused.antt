@@ -1,5 +1,5 @@
 -- A command for which there was no memory before any lane was asked for.
-use Rattle.std.proofs.Common.{◌≡◌, ℕ, Err, List, inl, inr, refl, subst}
+use Rattle.std.proofs.Common.{◌≡◌, ℕ, Err, List, inl, refl, subst}
 use Rattle.iofd_words.specs.declared.call_error.CallError.{CallError}
 use Rattle.iofd_words.specs.declared.call_error.CallError.TheVariants as failed
 use Rattle.iofd_words.specs.declared.refusal.NoMemory.{NoMemory}
@@ -10,13 +10,10 @@ use Rattle.ioctl_codec.specs.declared.events.Asked.{Asked}
 use Rattle.ioctl_codec.specs.declared.events.Asked.TheVariants as asks
 use Rattle.lane_lock.specs.Passes.{view_of}
 use Rattle.lane_lock.specs.Views.{IsBlank}
-use Rattle.lane_lock.specs.declared.table.View.{View}
 use Rattle.lane_lock.proofs.Retries.{none_had}
-use Rattle.guarded_core.specs.Guarded.{RefusesCommit}
 use Rattle.guarded_core.specs.Passes.{CoreGhosts, CorePass}
-use Rattle.guarded_core.specs.declared.try_error.TryError.{TryError}
 use Rattle.guarded_core.specs.declared.try_error.TryError.TheVariants as tried
-use Rattle.shared_iommufd.specs.Ioctls.{FailsAsked, RefusesAsked, RefusesEvent}
+use Rattle.shared_iommufd.specs.Ioctls.{FailsAsked, RefusesAsked}
 use Rattle.shared_iommufd.proofs.Shown.{sees_same}
 
 module _ {A : Type 0} where
@@ -27,12 +24,6 @@ module _ {A : Type 0} where
   spelt_command number bytes e no_memory is held =
       let found = subst (λ (x : CallError). OnMemory {T = Command A} (Err x)
       ((command : Command A) × SpellsEntries number bytes command)) is held in (found.0, found.1.0)
-
--- an event that is refused as a commit is
-pub event_refused : {E : Type 0} (lanes : ℕ) (v w : View E) (error : TryError NoMemory)
-    → RefusesCommit lanes v w error → RefusesEvent lanes v w error
-event_refused lanes v w (tried.NotNow refused) denied = denied
-event_refused lanes v w (tried.Call no_memory) denied = (denied.0, (denied.1, (denied.2, inr denied.3)))
 
 module _ {A : Type 0} {g : CoreGhosts A} where
   -- whatever it asks for isn't carried out, and the pass is as it was

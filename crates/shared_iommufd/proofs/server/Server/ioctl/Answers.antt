@@ -14,10 +14,10 @@ returns-in-Ok-clause-spelt g c =
 
 pub returns-in-Ok-clause-had : goal.returns-in-Ok-clause-had
 returns-in-Ok-clause-had g c =
-    on_err_weaker c.serve.result (λ failed. (c.in-Ok.command, (c.in-Ok.ensures.found, failed))) c.serve.ensures.had
+    on_err_weaker c.serve.result (λ failed. (c.in-Ok.command, c.in-Ok.ensures.found, failed)) c.serve.ensures.had
 
 pub returns-in-Err-Memory-clause-had : goal.returns-in-Err-Memory-clause-had
 returns-in-Err-Memory-clause-had g c =
     let a = c.args in
     let found = spelt_command a.number a.bytes.now _ _ c.in-Err-Memory.field-0-is c.in-Err-Memory.ensures.memory in
-    (found.0, (found.1, failed_in_vain (asked a.file found.0) a.pass.now))
+    (found.0, found.1, failed_in_vain (asked a.file found.0) a.pass.now)
