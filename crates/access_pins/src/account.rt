@@ -80,8 +80,9 @@ fn most_new_pages<A: Allocator>(areas: Iter<'_, A>, span: Span, memory: &UserMem
     count
 }
 
-/// The same, where each page counts once: for the last area that has it. It goes over the pages, and for each that
-/// isn't pinned over the areas behind.
+/// How many pages these areas, which meet the span, have in it that aren't pinned, where one that several areas share
+/// counts once: for the last area that has it. It goes over the pages, and for each that isn't pinned over the areas
+/// behind.
 fn new_pages<A: Allocator>(areas: Iter<'_, A>, span: Span, memory: &UserMemory<A>) -> u128
     requires met { list_all (λ area. meets area.span span) areas ≡ true }
     requires lies { list_all (run_lies memory.now) (runs.runs_in span areas) ≡ true }
@@ -126,7 +127,8 @@ fn new_pages_of<A: Allocator>(
     count
 }
 
-/// The same, where the run has one page.
+/// 1 where the run's one page isn't pinned, and is in none of the runs that these areas, which meet the span, have in
+/// it; else 0.
 fn new_page<A: Allocator>(
     run: PageRun,
     others: Iter<'_, A>,

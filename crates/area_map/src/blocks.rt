@@ -210,7 +210,8 @@ pub(crate) fn widest_at<A: Allocator>(rows: &[Row<A>], index: usize) -> u64
     widest_around(rows_of(rows, index / BLOCK), index % BLOCK)
 }
 
-// The same, of all these rows.
+// How many free addresses the widest gap has in the row at this place among the rows of its block, and between it and
+// those beside it.
 fn widest_around<A: Allocator>(rows: &[Row<A>], place: usize) -> u64
     requires { place < 32 }
     ensures { result ≡ widest_around place rows.now }
@@ -302,7 +303,8 @@ fn widest_of<A: Allocator>(rows: &[Row<A>]) -> u64
     }
 }
 
-// The same, with the gap behind an area that ends there.
+// How many free addresses the widest gap has between two of these rows' areas, or between the first and an area before
+// them that ends at the address `last`.
 fn widest_behind<A: Allocator>(last: u64, rows: &[Row<A>]) -> u64
     requires { AreRows rows.now }
     ensures { result ≡ widest_behind last (in_rows rows.now) }

@@ -31,7 +31,7 @@ pub fn free_from<A: Allocator>(
     }
 }
 
-// The same, where it may be too high for an address.
+// From which address on, `start` or one above it, so many addresses are free; it may be too high for an address.
 fn free_behind<A: Allocator>(rows: &[Row<A>], blocks: &[Block], start: u64, count: u64) -> u128
     requires apart { AreApart (in_rows rows.now) }
     requires rows { AreRows rows.now }
@@ -48,7 +48,8 @@ fn free_behind<A: Allocator>(rows: &[Row<A>], blocks: &[Block], start: u64, coun
     free_in_blocks(rows, blocks, next, at, count)
 }
 
-// The same, of the rows from the block of this number on and from a place on that may be too high.
+// From which place on, `start` or one above it, so many addresses are free, as far as the areas go of the rows from the
+// block of this number on. Both places may be too high for an address.
 fn free_in_blocks<A: Allocator>(
     rows: &[Row<A>],
     blocks: &[Block],
@@ -72,8 +73,8 @@ fn free_in_blocks<A: Allocator>(
     gaps::free_in_rows(&rows[blocks::begin_of(rows, number)..], at, count)
 }
 
-// The same, of the rows of the block of this number, which so many addresses from the place on reach. Its bound may be
-// wider than its gaps, and then the place is behind it.
+// From which place on so many addresses are free, as far as the areas go of the block of this number, which so many
+// addresses from the place `at` on reach. Where no gap of the block is so wide, that is behind it.
 fn free_in_block<A: Allocator>(
     rows: &[Row<A>],
     block: &Block,

@@ -118,7 +118,7 @@ pub fn add<A: Allocator>(
     blocks.renew(rows, index, to, parted);
 }
 
-// The same, but for the blocks. Says up to which row rows may have changed.
+// Adds an area to the rows, and not yet to what the blocks tell of them. Says up to which row rows may have changed.
 fn add_area<A: Allocator>(
     rows: &mut Vec<Row<A>, A>,
     spare: &mut Option<Row<A>>,

@@ -51,7 +51,8 @@ gap_behind last place [] = 18446744073709551615
 gap_behind last zero (area ∷ areas) = area.span.first - last - 1
 gap_behind last (suc place) (area ∷ areas) = gap_behind area.span.last place areas
 
--- the same, behind the area before the place; more than any gap has where there is none on a side
+-- how many free addresses lie between the area at this place and the one before it; more than any gap has where there
+-- is none on a side
 abbrev pub gap_at : ℕ → List Area → ℕ
 gap_at place [] = 18446744073709551615
 gap_at zero (area ∷ areas) = 18446744073709551615

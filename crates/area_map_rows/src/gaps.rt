@@ -27,7 +27,8 @@ pub fn free_in_rows<A: Allocator>(rows: &[Row<A>], start: u128, count: u64) -> u
     at
 }
 
-/// The same, of a row's areas and from a place on that may be too high.
+/// From which place on so many addresses are free, as far as these areas of a row go. Both places may be too high for
+/// an address.
 pub fn free_in(areas: &[Area], from: u128, count: u64) -> u128
     requires { from ≤ 2 ^ 64 }
     ensures value { result ≡ first_free from count areas.now }

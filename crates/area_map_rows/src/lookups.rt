@@ -92,7 +92,7 @@ pub fn first_reaching<A: Allocator>(rows: &[Row<A>], address: u64) -> Option<&Ar
     first_behind(rows, rows_below(rows, address), address)
 }
 
-// The same, where so many rows end below the address.
+// The first area that ends at the address or after it, where so many rows end below it.
 fn first_behind<A: Allocator>(rows: &[Row<A>], below: usize, address: u64) -> Option<&Area>
     requires apart { AreApart (in_rows rows.now) }
     requires rows { AreRows rows.now }
@@ -182,7 +182,8 @@ pub fn cuts<A: Allocator>(rows: &[Row<A>], span: Span) -> bool
     }
 }
 
-// The same, where this is the first area that ends at the first address of the span or after it.
+// Whether some area meets the span and isn't wholly in it, where this is the first area that ends at the span's first
+// address or after it.
 fn is_cut_from<A: Allocator>(rows: &[Row<A>], area: &Area, span: Span) -> bool
     requires apart { AreApart (in_rows rows.now) }
     requires rows { AreRows rows.now }

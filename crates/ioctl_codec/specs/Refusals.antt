@@ -65,7 +65,7 @@ abbrev pub cause_of : {T : Type 0} → Result T Refusal → Option Cause
 cause_of (Ok x) = None
 cause_of (Err r) = Some r.cause
 
--- the same, where memory may be wanting too
+-- the cause for which it was refused, if it was; memory may be wanting, too
 abbrev pub refused_of : {T : Type 0} → Result T CallError → Option Cause
 refused_of (Ok x) = None
 refused_of (Err (errors.Refused r)) = Some r.cause

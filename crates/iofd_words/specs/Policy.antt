@@ -87,7 +87,7 @@ access_outcomes v device address kind =
           (translated v device address kind a)
     ]
 
--- the same, in this world
+-- all that may come of it in this world
 unfoldable pub outcomes : World → DeviceNo → ℕ → AccessKind → List Outcome
 outcomes w device address kind = access_outcomes (view w) device address kind
 

@@ -38,7 +38,7 @@ module _ {A : Type 0} where
   BeginsLines journal settings s steps out =
       BeginsSteps s steps out ⊎ ((text : List ℕ) × StepsText journal settings s steps text × IsFront out text)
 
--- the same, from a server on that was just opened
+-- the first bytes of a session's text, and not all, by a server that was just opened
 abbrev pub BeginsSession : Type 0 → Settings → List Step → Bool → List ℕ → Type 0
 BeginsSession A settings steps journal out =
     (s : Server A) × (s.history ≡ record { settings = settings; records = [] })

@@ -26,7 +26,7 @@ module _ {A : Type 0} where
     pub end_is : EndText journal settings last.history.records end
     pub out_is : out ≡ lines ++ end
 
--- the same, from a server on that was just opened
+-- all lines of a session, and its journal where it is asked for, by a server that was just opened
 abbrev pub SessionText : Type 0 → Settings → List Step → Bool → List ℕ → Type 0
 SessionText A settings steps journal out =
     (s : Server A) × (s.history ≡ record { settings = settings; records = [] })

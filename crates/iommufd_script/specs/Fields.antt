@@ -34,7 +34,7 @@ pub data Kind : Type 0 where
   AddressWidth : Kind
   -- bytes in lower-case hexadecimal, `-` for none
   Bytes : Kind
-  -- the same, of 1 to 64 bytes
+  -- 1 to 64 bytes in lower-case hexadecimal
   Access : Kind
   -- what a pin is for: `r` for reads alone, `w` for writes too
   Purpose : Kind

@@ -107,7 +107,7 @@ fn set_of<A: Allocator + Copy>(alloc: A, ranges: &[IovaRange]) -> Result<RangeSe
     Ok(set)
 }
 
-// The same, the ranges added as they stand.
+// The set of the numbers of these ranges, which are added in the order in which they stand.
 fn set_in_order<A: Allocator>(alloc: A, ranges: &[IovaRange]) -> Result<RangeSet<A>, NoMemory>
     ensures set { IfOk result (λ set. IsSetOf set.spans ranges.now) }
     ensures memory { OnErr result (0 < length ranges.now) }

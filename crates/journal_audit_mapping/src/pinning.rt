@@ -109,7 +109,7 @@ fn object_of(memory: &[MemoryObject], number: u64) -> Option<MemoryObject>
     found_object(memory, number).copied()
 }
 
-// The same, where it stands.
+// The memory object of this number, in its place.
 fn found_object(memory: &[MemoryObject], number: u64) -> Option<&MemoryObject>
     ensures { option_copied result ≡ find (λ m. m.number == number) memory.now }
 {

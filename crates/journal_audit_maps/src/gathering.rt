@@ -40,7 +40,7 @@ fn object_of(memory: &[MemoryObject], number: u64) -> Option<MemoryObject>
     found_object(memory, number).copied()
 }
 
-// The same, where it stands.
+// The memory object of this number, in its place.
 fn found_object(memory: &[MemoryObject], number: u64) -> Option<&MemoryObject>
     ensures { option_copied result ≡ find (λ m. m.number == number) memory.now }
 {
@@ -110,7 +110,8 @@ fn next_lying(first: u64, asked: Asked, from: u64) -> Option<u64>
     }
 }
 
-// The same of a page of the area, if the area is of the address space and over the memory object.
+// The least page of the memory object, from this one on, that the area has where it is asked for, if the area is of the
+// address space and over the object.
 fn next_in(
     area: &Area,
     file: FileNo,
@@ -140,7 +141,7 @@ fn lesser(a: Option<u64>, b: Option<u64>) -> Option<u64>
     }
 }
 
-// The same in some area.
+// The least page of the memory object, from this one on, that some area of the address space has where it is asked for.
 fn next_spanned(
     areas: &[Area],
     file: FileNo,
@@ -192,7 +193,8 @@ fn gather_object<A: Allocator>(
     Ok(true)
 }
 
-// The same, if the memory object is asked for; no page of another lies in the span.
+// Gathers the pages of a memory object that lie in the span and aren't pinned, if it is asked for; of one that isn't,
+// no page lies there.
 fn gather_asked<A: Allocator>(
     found: &mut Vec<Pin, A>,
     areas: &[Area],

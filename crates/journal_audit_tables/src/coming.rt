@@ -133,7 +133,7 @@ pub fn automatic_hwpt(objects: &[Object], file: FileNo, ioas: ObjId, width: Widt
     found(objects, file, ioas, width).copied()
 }
 
-// The same, where it stands.
+// The automatic page table of this width over the address space, in its place.
 fn found(objects: &[Object], file: FileNo, ioas: ObjId, width: Width) -> Option<&Object>
     ensures { option_copied result ≡ automatic_hwpt objects.now file ioas width }
 {

@@ -17,7 +17,7 @@ pub fn attachment_of(attachments: &[Attachment], device: DeviceNo) -> Option<Att
     found(attachments, device).copied()
 }
 
-// The same, where it stands.
+// The attachment of a device, in its place.
 fn found(attachments: &[Attachment], device: DeviceNo) -> Option<&Attachment>
     ensures { option_copied result ≡ attachment_of attachments.now device }
 {

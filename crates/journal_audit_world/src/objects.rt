@@ -175,7 +175,7 @@ pub fn binding_of(objects: &[Object], device: DeviceNo) -> Option<Object>
     bound_by(objects, device).copied()
 }
 
-// The same, where it stands.
+// The object by which a device is bound, in its place.
 fn bound_by(objects: &[Object], device: DeviceNo) -> Option<&Object>
     ensures { option_copied result ≡ binding_of objects.now device }
 {

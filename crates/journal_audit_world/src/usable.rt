@@ -36,7 +36,8 @@ pub fn meet_unusable<A: Allocator>(
     meet_rows(config, objects, attachments, file, ioas, ranges)
 }
 
-// The same, by objects and by attachments.
+// Whether some range ends beyond a page table over the address space, or has an address that a device attached to it
+// keeps for itself.
 fn meet_rows<A: Allocator>(
     config: &Config<A>,
     objects: &[Object],

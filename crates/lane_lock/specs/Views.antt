@@ -23,7 +23,7 @@ module _ {E : Type 0} where
   abbrev pub holding : Bool → View E → ℕ → ℕ → View E
   holding to_read v k w = record v { held = slice_set v.held k w; writes = writes_with to_read v k }
 
-  -- the same, which has seen the history h; a reader has what it came for
+  -- the view, holding lane k by the word w, that has seen the history h; a reader has what it came for
   abbrev pub seeing : Bool → View E → ℕ → ℕ → List E → View E
   seeing to_read v k w h = record v {
     held = slice_set v.held k w;

@@ -35,7 +35,8 @@ pub record IsEmpty (levels : ℕ) (rows : List TableRow) (pages : List MappedPag
   pub below : (other page : ℕ) → other < level → number_at level page ≡ number → table_at rows other page ≡ None
   pub unmapped : (page : ℕ) → number_at level page ≡ number → page_at pages page ≡ None
 
--- the same, in some way in which the page table stands in the pool
+-- the level's table of this number is there and empty, for some rows and pages with which the page table stands in the
+-- pool
 pub record HasEmpty (pool : FramePool) (table : TableRoot) (levels level number : ℕ) : Type 0 where
   pub rows : List TableRow
   pub pages : List MappedPage

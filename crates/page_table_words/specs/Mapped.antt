@@ -28,7 +28,8 @@ pub record IsTable (pool : FramePool) (table : TableRoot) : Type 0 where
   pub pages : List MappedPage
   pub stands : TableStands pool table rows pages
 
--- the same, and there is room for the frames of the tables that the page lacks
+-- the page table stands in the pool, with some rows and pages, and there is room for the frames of the tables that the
+-- page lacks
 pub record HasRoom (pool : FramePool) (table : TableRoot) (page room : ℕ) : Type 0 where
   pub rows : List TableRow
   pub pages : List MappedPage

@@ -46,7 +46,7 @@ pub record Stands (pool : FramePool) (levels : ℕ) (root : FrameNo) (rows : Lis
   pub rights : (page : ℕ) (to : MappedPage) → page_at pages page ≡ Some to →
       (0 < to.rights.0) × (to.rights.0 < 4) × (to.frame.0 < 2 ^ 32)
 
--- the same, by what is seen of the page table
+-- the page table stands so in the pool, by its root and the levels of its width
 abbrev pub TableStands : FramePool → TableRoot → List TableRow → List MappedPage → Type 0
 TableStands pool table rows pages = Stands pool (levels_of table.width) table.root rows pages
 

@@ -102,7 +102,7 @@ impl Handle {
         }
     }
 
-    // The same, with room for what the other handle is to stand for.
+    // Opens another handle for another caller, with room for what that handle is to stand for.
     fn share_into(
         &mut self,
         alloc: Global,
@@ -135,7 +135,7 @@ impl Handle {
         }
     }
 
-    // The same, with room for what the other handle is to stand for.
+    // Opens another handle for a device's port, with room for what that handle is to stand for.
     fn port_into(
         &mut self,
         alloc: Global,
