@@ -1,6 +1,6 @@
 -- How many pages several runs have that aren't pinned, where each counts once: for the last run that has it.
 use Rattle.std.proofs.Common.{◌≡◌, ℕ, ◌+◌, ◌-◌, ◌^◌, ◌≤◌, ◌<◌, Bool, true, false, cond, ◌&&◌, ◌||◌, not, eqb, leb, ltb}
-use Rattle.std.proofs.Common.{List, [], ◌∷◌, length, suc, Option, Some, None, refl, sym, ap, ◌∙◌, arith}
+use Rattle.std.proofs.Common.{List, [], ◌∷◌, length, suc, refl, sym, ap, ◌∙◌, arith}
 use Rattle.std.specs.List.{count_by, filter, list_all, range_with_len}
 use Rattle.std.specs.Prelude.{is_none}
 use Rattle.std.proofs.lemmas.Bool.{eqb-true}
@@ -15,11 +15,7 @@ use Rattle.iofd_rows.proofs.ListTests.{any_weaker}
 use Rattle.iofd_rows.proofs.PageCounts.{count_none}
 use Rattle.iofd_runs.proofs.Accessed.{some_in}
 use Rattle.iofd_words.specs.Bounds.{Bounds}
-use Rattle.iofd_words.specs.Checks.{passes_limit}
-use Rattle.iofd_words.specs.Files.{limit_of}
 use Rattle.iofd_words.specs.Pins.{ObjectPage, unpinned_pages}
-use Rattle.iofd_words.specs.View.{View}
-use Rattle.iofd_words.specs.declared.numbers.UserNo.{UserNo}
 use Rattle.iofd_words.specs.declared.rows.Area.{Area}
 use Rattle.iofd_words.specs.declared.rows.MemoryObject.{MemoryObject}
 use Rattle.memory_objects.specs.Objects.{are_rising, row_of}
@@ -32,17 +28,6 @@ use Rattle.user_memory.specs.Memory.{Memory, is_in_runs, new_in_runs, pinned_fra
 use Rattle.user_memory_rows.proofs.Counts.{count_alike, count_fewer, count_split, count_within}
 
 -- ---- how many may be pinned
-
--- where so many may, fewer may
-pub fewer_pass : (v : View) (user : Option UserNo) (few most : ℕ) → few ≤ most → passes_limit v user most ≡ false
-    → passes_limit v user few ≡ false
-fewer_pass v None few most less none = refl
-fewer_pass v (Some user) few most less none = by_limit (limit_of v.settings user) none
-  where
-    by_limit : (o : Option ℕ) → elim o [ Some limit ↦ ltb limit (v.held_by user + most) | None ↦ false ] ≡ false
-        → elim o [ Some limit ↦ ltb limit (v.held_by user + few) | None ↦ false ] ≡ false
-    by_limit None none = refl
-    by_limit (Some limit) none = grind (arith, nat_tests)
 
 -- ---- runs of pages
 
@@ -115,14 +100,6 @@ module _ (m : Memory) where
       apart true false = refl
       apart false true = refl
       apart false false = refl
-
-  -- and so at most all of its pages
-  pub most_more : (run : PageRun) (others : List PageRun) → length (new_in_runs m (run ∷ others))
-      ≤ length (new_in_runs m (run ∷ [])) + length (new_in_runs m others)
-  most_more run others =
-      let more = run_more run others in
-      let most = count_by-le-length (is_in_none others) (new_in_runs m (run ∷ [])) in
-      omega (arith, more, most)
 
   -- ---- page by page
 

@@ -248,16 +248,3 @@ pub none_leaving : (xs : List Area) (hull : Option Bounds) → LeaveIn None xs �
 none_leaving [] hull leave = refl
 none_leaving (x ∷ xs) hull leave =
     none_leaving xs (with_leaving hull x) leave.1 ∙ with_live hull x leave.0
-
--- the span of those that lie in a span that holds all leaving ones
-pub span_within : (span : Bounds) (xs : List Area) (hull : Option Bounds) → LeaveIn (Some span) xs
-    → fold with_leaving hull (areas_within span xs) ≡ fold with_leaving hull xs
-span_within span [] hull leave = refl
-span_within span (x ∷ xs) hull leave =
-    ⊎_elim
-    (λ (lies : lies_in x.span span ≡ true). rw lies (span_within span xs (with_leaving hull x) leave.1))
-    (λ (outside : lies_in x.span span ≡ false).
-    let live = live_from x (λ is. let lies = leave.0 is in cc) in
-    rw outside (span_within span xs hull leave.1
-    ∙ ap (λ (h : Option Bounds). fold with_leaving h xs) (sym (with_live hull x live))))
-    (cases_Bool (lies_in x.span span))

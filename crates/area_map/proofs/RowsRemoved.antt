@@ -1,7 +1,7 @@
 -- Rows of which areas are taken away.
 use Rattle.std.proofs.Common.{◌≡◌, ℕ, suc, zero, ◌+◌, ◌-◌, ◌<◌, ◌≤◌, ◌==◌, false, not, List, [], ◌∷◌}
 use Rattle.std.proofs.Common.{◌++◌, length, get_or, take, drop, set, map, refl, sym, ap, ◌∙◌, arith}
-use Rattle.std.specs.List.{filter, list_any, between, remove}
+use Rattle.std.specs.List.{filter, list_any, between}
 use Rattle.std.proofs.lemmas.Bool.Decides.{nat_tests}
 use Rattle.std.proofs.lemmas.List.{length-append, drop-drop, take-append-drop}
 use Rattle.std.proofs.lemmas.List.Edits.{split_between}
@@ -116,12 +116,6 @@ length-set_row (x ∷ rows) (suc i) row d within =
     let new = length-append x (in_rows (set rows i row)) in
     let old = length-append x (in_rows rows) in
     omega (arith, new, old, rest)
-
--- one more goes before those that went
-pub one_more_gone : (xs ys : List Area) (k : ℕ) → k < length xs → remove (take (suc k) xs ++ ys) k ≡ take k xs ++ ys
-one_more_gone [] ys k within = absurd (omega arith)
-one_more_gone (x ∷ xs) ys zero within = refl
-one_more_gone (x ∷ xs) ys (suc k) within = ap (λ zs. x ∷ zs) (one_more_gone xs ys k (omega arith))
 
 -- the next row hasn't changed yet
 pub row_ahead : (f : List Area → List Area) (rows : List (List Area)) (i : ℕ) (d : List Area) → i < length rows

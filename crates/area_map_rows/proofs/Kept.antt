@@ -1,7 +1,7 @@
 -- Areas stay in order and apart where their spans stay, and where some are taken away.
-use Rattle.std.proofs.Common.{◌≡◌, ℕ, ◌+◌, ◌≤◌, Bool, true, false, ◌&&◌, List, [], ◌∷◌, length, map, refl, arith}
+use Rattle.std.proofs.Common.{◌≡◌, ℕ, ◌+◌, ◌≤◌, Bool, true, false, List, [], ◌∷◌, length, map, refl, arith}
 use Rattle.std.proofs.Common.{ap, ⊎_elim}
-use Rattle.std.specs.List.{filter, list_any}
+use Rattle.std.specs.List.{filter}
 use Rattle.std.proofs.lemmas.Bool.{cases_Bool}
 use Rattle.std.proofs.lemmas.Bool.Decides.{nat_tests}
 use Rattle.std.proofs.lemmas.List.{length-map}
@@ -48,14 +48,6 @@ kept-filter p xs kept =
     let fewer = length-filter-le p xs in
     let most = kept.few in
     record { apart = apart-filter p 0 xs kept.apart; few = omega arith }
-
--- some of those that pass one test pass another where some pass both
-pub list_any-filter : (p q : Area → Bool) (xs : List Area) → list_any q (filter p xs) ≡ list_any (λ x. p x && q x) xs
-list_any-filter p q [] = refl
-list_any-filter p q (x ∷ xs) =
-    let rest = list_any-filter p q xs in
-    ⊎_elim (λ (passes : p x ≡ true). grind (arith, nat_tests))
-    (λ (fails : p x ≡ false). grind (arith, nat_tests)) (cases_Bool (p x))
 
 -- a span with a gap isn't covered
 pub gap_tells : (span : Bounds) (xs : List Area) → HasGap span xs → IsCovered span xs → ⊥

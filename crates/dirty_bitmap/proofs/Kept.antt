@@ -7,7 +7,7 @@ use Rattle.std.proofs.lemmas.Bool.{cases_lt, eqb-true, le-leb, le-ltb, lt-leb, l
 use Rattle.std.proofs.lemmas.Bool.Decides.{nat_tests}
 use Rattle.dirty_bitmap.specs.Marks.{Words, has_bit, is_marked, word_at}
 use Rattle.dirty_bitmap.proofs.WordBits.{has_bit-above, has_bit-and, has_bit-not, has_bit-or, has_bit-shl_high}
-use Rattle.dirty_bitmap.proofs.WordBits.{has_bit-shl_low, has_bit-shr, has_bit-zero, one_bit}
+use Rattle.dirty_bitmap.proofs.WordBits.{has_bit-shl_low, has_bit-shr, one_bit}
 
 pub or_false : (b : Bool) → (b || false) ≡ b
 or_false true = refl
@@ -90,9 +90,6 @@ marked_more old new page more other =
         ∙ ap (λ t. is_marked old other || t) (one_bit (page % 64) (other % 64) (omega arith) ∙ same_page is)
     by_test false is = sym (ap (λ t. is_marked old other || t) (other_page is) ∙ or_false (is_marked old other))
 
-pub unmarked : (words : Words) (page : ℕ) → word_at words (page / 64) ≡ 0 → is_marked words page ≡ false
-unmarked words page none = ap (λ w. has_bit w (page % 64)) none ∙ has_bit-zero (page % 64)
-
 -- ---- marks of one word are taken away
 
 module _ (number first last before behind low high : ℕ) (low_is : low ≡ first - number * 64)
@@ -154,52 +151,3 @@ module _ (number first last before behind low high : ℕ) (low_is : low ≡ firs
 -- the page is one of these, in a word before this one
 abbrev pub is_gone : ℕ → ℕ → ℕ → ℕ → Bool
 is_gone first last number page = ltb (page / 64) number && (leb first page && leb page last)
-
-pub none_gone : (first last page : ℕ) → is_gone first last (first / 64) page ≡ false
-none_gone first last page =
-    ⊎_elim
-    (λ (below : page / 64 < first / 64).
-    let before : leb first page ≡ false = lt-leb first page (omega (arith, below)) in
-    ap (λ t. ltb (page / 64) (first / 64) && (t && leb page last)) before ∙ and_false (ltb (page / 64) (first / 64)))
-    (λ (above : first / 64 ≤ page / 64).
-    ap (λ t. t && (leb first page && leb page last)) (le-ltb (page / 64) (first / 64) above))
-    (cases_lt (page / 64) (first / 64))
-  where
-    and_false : (b : Bool) → (b && false) ≡ false
-    and_false true = refl
-    and_false false = refl
-
-pub all_gone : (first last number page : ℕ) → last / 64 + 1 ≤ number
-    → is_gone first last number page ≡ (leb first page && leb page last)
-all_gone first last number page reached =
-    ⊎_elim
-    (λ (below : page / 64 < number). ap (λ t. t && (leb first page && leb page last)) (lt-ltb (page / 64) number below))
-    (λ (above : number ≤ page / 64).
-    let behind : leb page last ≡ false = lt-leb page last (omega (arith, above, reached)) in
-    ap (λ t. ltb (page / 64) number && (leb first page && t)) behind
-    ∙ no_test (ltb (page / 64) number) (leb first page)
-    ∙ sym (ap (λ t. leb first page && t) behind))
-    (cases_lt (page / 64) number)
-  where
-    no_test : (a b : Bool) → (a && (b && false)) ≡ (b && false)
-    no_test true b = refl
-    no_test false true = refl
-    no_test false false = refl
-
-pub more_gone : (first last number page : ℕ) (m : Bool)
-    → ((m && not (is_gone first last number page)) && not (eqb number (page / 64) && (leb first page && leb page last)))
-    ≡ (m && not (is_gone first last (number + 1) page))
-more_gone first last number page m =
-    sorted m (ltb (page / 64) number) (eqb number (page / 64)) (leb first page && leb page last)
-    ∙ ap (λ t. m && not (t && (leb first page && leb page last))) one_more
-  where
-    one_more : (ltb (page / 64) number || eqb number (page / 64)) ≡ ltb (page / 64) (number + 1)
-    one_more = grind (arith, nat_tests)
-
-    sorted : (m a b c : Bool) → ((m && not (a && c)) && not (b && c)) ≡ (m && not ((a || b) && c))
-    sorted false a b c = refl
-    sorted true true true true = refl
-    sorted true true true false = refl
-    sorted true true false true = refl
-    sorted true true false false = refl
-    sorted true false b c = refl

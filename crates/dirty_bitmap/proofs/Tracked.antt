@@ -10,7 +10,7 @@ use Rattle.std.proofs.lemmas.Map.Entries.{lookup-filter-keys}
 use Rattle.iofd_words.specs.declared.numbers.FileNo.{FileNo}
 use Rattle.iofd_words.specs.declared.numbers.ObjId.{ObjId}
 use Rattle.dirty_bitmap.specs.Marks.{Words, is_marked}
-use Rattle.dirty_bitmap.specs.Tracking.{Tables, is_dirty, is_file, is_marked_in, is_table, is_tracked, marks_of}
+use Rattle.dirty_bitmap.specs.Tracking.{Tables, is_file, is_marked_in, is_table, marks_of}
 use Rattle.dirty_bitmap.proofs.Kept.{and_true, or_false}
 
 -- ---- keys
@@ -156,15 +156,6 @@ module _ (old new : Tables) (file : FileNo) (hwpt : ObjId) where
         by_test false is = sym (and_true (is_marked_in (marks_of old f h) page))
 
 -- ---- it isn't tracked
-
--- what isn't tracked has no marked page
-pub untracked_clean : (tables : Tables) (file : FileNo) (hwpt : ObjId) → is_tracked tables file hwpt ≡ false
-    → (page : ℕ) → is_dirty tables file hwpt page ≡ false
-untracked_clean tables file hwpt is page = by_found (marks_of tables file hwpt) is
-  where
-    by_found : (o : Option Words) → is_some o ≡ false → is_marked_in o page ≡ false
-    by_found None none = refl
-    by_found (Some m) none = cc
 
 module _ (tables : Tables) (file : FileNo) (hwpt : ObjId) (none : marks_of tables file hwpt ≡ None) where
   nothing : (f : FileNo) (h : ObjId) → is_table file hwpt f h ≡ true → marks_of tables f h ≡ None

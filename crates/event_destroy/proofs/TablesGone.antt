@@ -40,10 +40,6 @@ use Rattle.page_table_words.specs.Taken.{names}
 
 -- ---- lists
 
-none_found : {X : Type 0} (p : X → Bool) (xs : List X) → ((x : X) → IsIn xs x → p x ≡ false) → find p xs ≡ None
-none_found p [] none = refl
-none_found p (x ∷ xs) none = rw (none x (inl refl)) (none_found p xs (λ y later. none y (inr later)))
-
 none_counted : {X : Type 0} (p : X → Bool) (xs : List X) → ((x : X) → IsIn xs x → p x ≡ false) → count_by p xs ≡ 0
 none_counted p [] none = refl
 none_counted p (x ∷ xs) none =

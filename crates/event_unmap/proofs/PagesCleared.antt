@@ -57,11 +57,6 @@ module _ (file : FileNo) (ioas : ObjId) where
   fails_both true x y = refl
   fails_both false x y = refl
 
-  -- one that isn't live has none
-  pub none_cleared : (area : Area) (leads : Leads) → is_live area.phase ≡ false → (object : Object) (page : ℕ)
-      → cleared file ioas (area ∷ []) leads object page ≡ leads object page
-  none_cleared area leads left object page = rw left (fails_both (is_over file ioas object) None (leads object page))
-
   -- nothing is, where no page table is over the address space
   pub none_over : (areas : List Area) (pool : FramePool) (rows : List TableFrame) (leads : Leads) (tables : List Hwpt)
       → has_hwpt (map (λ (h : Hwpt). h.object) tables) file ioas ≡ false

@@ -38,7 +38,6 @@ use Rattle.iofd_words.specs.declared.event.Event.TheVariants as event
 use Rattle.iofd_words.specs.declared.event.UnmapRequest.{UnmapRequest}
 use Rattle.iofd_words.specs.declared.numbers.FileNo.{FileNo}
 use Rattle.iofd_words.specs.declared.numbers.FrameNo.{FrameNo}
-use Rattle.iofd_words.specs.declared.numbers.ObjId.{ObjId}
 use Rattle.iofd_words.specs.declared.reply.Reply.TheVariants as reply
 use Rattle.iofd_words.specs.declared.rows.Area.{Area}
 use Rattle.iofd_words.specs.declared.rows.Object.{Object}
@@ -47,7 +46,7 @@ use Rattle.iofd_words.specs.declared.rows.ObjectKind.TheVariants as kind
 use Rattle.iofd_words.specs.declared.rows.TableFrame.{TableFrame}
 use Rattle.page_table_set.specs.Idle.{AllCanLeave, MayShed, Sheds, is_idle_in}
 use Rattle.page_table_set.specs.OverSpans.{is_over}
-use Rattle.page_table_set.specs.PageTables.{AllStand, Hwpt, IfAllStand}
+use Rattle.page_table_set.specs.PageTables.{AllStand, IfAllStand}
 use Rattle.page_table_spans.specs.Idle.{span_of_page}
 use Rattle.page_table_words.specs.Rows.{MappedPage}
 use Rattle.event_unmap.proofs.AreasToClear.{none_beyond}

@@ -1,5 +1,5 @@
 -- Areas that begin to leave, and then see one try more.
-use Rattle.std.proofs.Common.{◌≡◌, ℕ, ◌+◌, ◌<◌, ◌≤◌, Bool, true, false, cond, ltb, List, [], ◌∷◌, map, refl, sym, ◌∙◌}
+use Rattle.std.proofs.Common.{◌≡◌, ℕ, ◌+◌, ◌<◌, Bool, true, false, cond, ltb, List, [], ◌∷◌, map, refl, sym, ◌∙◌}
 use Rattle.std.proofs.Common.{ap, arith}
 use Rattle.std.proofs.lemmas.Bool.Decides.{nat_tests}
 use Rattle.area_map_rows.specs.Areas as rows
@@ -25,14 +25,6 @@ module _ (span : Bounds) (most : ℕ) (owed : List ℕ) where
         phase = cond (lies_in a.span span)
             (cond few (with_tries (most + 1) (leaving owed a.phase)) (leaving owed a.phase)) a.phase;
       }
-
-  -- after a hundred tries no more are counted
-  pub all_counted : ltb most 100 ≡ false → (areas : List Area)
-      → map (rows.marked span owed) areas ≡ map (waiting span most owed) areas
-  all_counted many [] = refl
-  all_counted many (a ∷ areas) =
-      ap (λ (few : Bool). counted few a ∷ map (rows.marked span owed) areas) (sym many)
-      ∙ ap (λ (l : List Area). waiting span most owed a ∷ l) (all_counted many areas)
 
   -- an area that is marked, and then gets its number
   each : (a : Area) → rows.tried span (most + 1) (rows.marked span owed a) ≡ counted true a
@@ -72,10 +64,6 @@ module _ {A : Type 0} (file : FileNo) (ioas : ObjId) (old : Table (Held A)) wher
         files = second.files ∙ first.files;
         users = λ f i. second.users f i ∙ first.users f i;
       }
-
--- a hundred tries
-pub enough : (most : ℕ) → 100 ≤ most → ltb most 100 ≡ false
-enough most many = search (many, arith, nat_tests)
 
 pub too_few : (most : ℕ) → most < 100 → ltb most 100 ≡ true
 too_few most few = search (few, arith, nat_tests)

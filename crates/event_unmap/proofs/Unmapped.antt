@@ -65,7 +65,6 @@ use Rattle.server_state.specs.Mapping.{own_areas, some_waits}
 use Rattle.server_state.specs.declared.held.Held.{Held}
 use Rattle.server_state.specs.declared.state.State.{State}
 use Rattle.object_table.specs.Table.{Table}
-use Rattle.iofd_words.specs.Files.{is_device}
 use Rattle.user_memory_rows.proofs.AccessStays.{CoveredAlike, accessed_stays}
 use Rattle.user_memory_rows.proofs.AccessCounts.{counted_map}
 use Rattle.iofd_runs.proofs.HoldersStay.{NoPinGoes, unmapped_free}
@@ -478,16 +477,6 @@ names_span w file request o none lacks some =
     let positive : 0 < request.length = grind (arith, nat_tests) in
     let told = some positive sum in
     cc
-
-module _ {A : Type 0} where
-  -- each attached device is one of the configuration
-  pub never_strange : (at : ℕ) (w : World) (s : State A) (attachments : List Attachment) → IsTidy at w → Shows w s
-      → attachments ≡ s.attachments.items → list_all
-      (λ (a : Attachment). is_device s.config a.device) attachments ≡ false → ⊥
-  never_strange at w s attachments tidy shows is strange =
-      let all : list_all (λ (a : Attachment). is_device s.config a.device) attachments ≡ true =
-      rw (is, ← shows.devices.attached, ← shows.settings) tidy.fit.attached in
-      cc
 
 -- the pins of what is left
 pub unmapped_pins : (at : ℕ) (w : World) (file : FileNo) (request : UnmapRequest) (count : ℕ)

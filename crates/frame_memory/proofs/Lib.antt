@@ -1,6 +1,5 @@
 pub mod Holds
 pub mod Listed
-pub mod Named
 pub mod Reached
 pub mod Refusals
 pub mod Rising

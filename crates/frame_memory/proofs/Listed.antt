@@ -1,10 +1,10 @@
 -- What the pages of a map are, told by what it finds at each key.
-use Rattle.std.proofs.Common.{◌≡◌, ℕ, zero, suc, ◌&&◌, Bool, true, false, cond, eqb, not, Option, Some, None, List, []}
+use Rattle.std.proofs.Common.{◌≡◌, ℕ, zero, suc, Bool, true, false, cond, eqb, not, Option, Some, None, List, []}
 use Rattle.std.proofs.Common.{◌∷◌, length, refl, sym, ap, ◌∙◌, subst, arith, ⊎_elim}
 use Rattle.std.specs.List.{AllByRecursion, IsDistinct, filter, find, insert, list_all}
 use Rattle.std.specs.Prelude.{Result, Ok, Err}
 use Rattle.std.specs.Result.{IsOk, OnOk}
-use Rattle.std.specs.Map.{keys_of, lookup, values_of}
+use Rattle.std.specs.Map.{keys_of, lookup}
 use Rattle.std.proofs.lemmas.Bool.{and_parts, cases_Bool}
 use Rattle.std.proofs.lemmas.Bool.Decides.{nat_tests}
 use Rattle.std.proofs.lemmas.Map.Keys.{IsDistinct-cons, IsDistinct-head, IsDistinct-tail}
@@ -287,27 +287,6 @@ length_pages [] = refl
 length_pages (e ∷ es) =
     let row = row_of e in
     length_inserted (pages_of es) (count_below (pages_of es) row.user row.page) row ∙ ap suc (length_pages es)
-
-all_with : (p : UserPage → Bool) (rows : List UserPage) (n : ℕ) (row : UserPage)
-    → list_all p (insert rows n row) ≡ (p row && list_all p rows)
-all_with p [] zero row = refl
-all_with p [] (suc n) row = refl
-all_with p (x ∷ rows) zero row = refl
-all_with p (x ∷ rows) (suc n) row =
-    ap (λ rest. p x && rest) (all_with p rows n row) ∙ swapped (p x) (p row) (list_all p rows)
-  where
-    swapped : (a b c : Bool) → (a && (b && c)) ≡ (b && (a && c))
-    swapped true b c = refl
-    swapped false true c = refl
-    swapped false false c = refl
-
-pub all_frames : (test : FrameNo → Bool) (es : Entries)
-    → list_all (λ row. test row.frame) (pages_of es) ≡ list_all test (values_of es)
-all_frames test [] = refl
-all_frames test (e ∷ es) =
-    let row = row_of e in
-    all_with (λ r. test r.frame) (pages_of es) (count_below (pages_of es) row.user row.page) row
-    ∙ ap (λ rest. test e.1 && rest) (all_frames test es)
 
 -- ---- small steps
 

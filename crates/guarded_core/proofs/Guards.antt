@@ -4,7 +4,7 @@ use Rattle.std.proofs.Common.{Result, Ok, Err, IfErr, IfOk, Some}
 use Rattle.std.specs.Arc.{arc_value}
 use Rattle.std.specs.Result.{OnErr}
 use Rattle.lane_lock.specs.History.{Legal, StartsWith, made_by}
-use Rattle.lane_lock.specs.Outcomes.{HadAll, HadLane, HadNoLane, HadNone, KeepsHistory, OnlySees, RefusesRead}
+use Rattle.lane_lock.specs.Outcomes.{HadNoLane, KeepsHistory, OnlySees, RefusesRead}
 use Rattle.lane_lock.specs.Passes.{Commits, IsWriting, Owns, SamePass, ShowsValue, number_of, opening_of, view_of}
 use Rattle.lane_lock.specs.Steps.{share_history}
 use Rattle.lane_lock.specs.Views.{IsBlank}
@@ -111,13 +111,6 @@ module _ {E : Type 0} where
       → HadNoLane v w
   commit_had lanes v w (refusal.Busy busy) denied = denied.4.reads
   commit_had lanes v w Shared denied = denied.3.reads
-
-  -- what was had under a guard was had, where nothing was behind it
-  pub lane_kept : (u v w : View E) → HadLane u v → HadNone v w → HadLane u w
-  lane_kept u v w a b = record { reads = b.reads ∙ a.reads; writes = b.writes ∙ a.writes }
-
-  pub all_kept : (u v w : View E) → HadAll u v → HadNone v w → HadAll u w
-  all_kept u v w a b = record { reads = b.reads ∙ a.reads; writes = b.writes ∙ a.writes }
 
 -- what follows of the value of `Ok`
 pub if_ok : {X E : Type 0} (r : Result X E) (P Q : X → Type 0) → IfOk r P → ((x : X) → P x → Q x) → IfOk r Q

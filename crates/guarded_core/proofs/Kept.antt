@@ -117,10 +117,6 @@ module _ {A : Type 0} (device : DeviceNo) where
       → MayKeep told device seen turns kept → MayKeep told device now turns kept
   keeps_later seen now turns kept later may = ∥∥₁_map may (later_too seen now turns kept later)
 
-  pub keeps_none : (seen : List (Entry A)) (turns : ℕ) (kept : Translations) → kept ≡ []
-      → MayKeep told device seen turns kept
-  keeps_none seen turns kept none = ∣ inl none ∣₁
-
   -- it serves in each history that begins with what was seen
   pub keeps_serves : (h : History A) (seen : List (Entry A)) (turns : ℕ) (kept : Translations)
       → StartsWith (told h) seen → MayKeep told device seen turns kept → Serves h device turns kept
@@ -155,9 +151,6 @@ module _ (kind : AccessKind) where
 
 module _ {A : Type 0} (h : History A) (device : DeviceNo) (run : IsRun h.settings h.records) (turns : ℕ)
     (kept : Translations) where
-  now : ℕ
-  now = turns_of device h.records
-
   compared_sound : (IsRun h.settings h.records → turns ≡ turns_of device h.records → AreSound h device kept)
       → AreSound h device (compared turns (turns_of device h.records) kept)
   compared_sound serves = by_test (eqb turns (turns_of device h.records)) refl

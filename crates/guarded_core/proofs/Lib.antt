@@ -3,4 +3,3 @@ pub mod ByFound
 pub mod Entered
 pub mod Guards
 pub mod Kept
-pub mod Unfound

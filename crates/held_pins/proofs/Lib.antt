@@ -1,4 +1,3 @@
-pub mod Alike
 pub mod Asked
 pub mod InOrder
 pub mod Lists

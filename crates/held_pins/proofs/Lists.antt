@@ -1,9 +1,8 @@
 -- Of lists, by what is counted in them.
 use Rattle.std.proofs.Common.{◌≡◌, ◌+◌, ◌≤◌, Bool, true, false, cond, not, ◌&&◌, ◌||◌, List, [], ◌∷◌}
-use Rattle.std.proofs.Common.{length, refl, sym, ap, ◌∙◌, arith}
+use Rattle.std.proofs.Common.{refl, sym, ap, ◌∙◌, arith}
 use Rattle.std.specs.List.{count_by, list_all, list_any}
 use Rattle.std.specs.Prelude.{nat_lt}
-use Rattle.std.proofs.lemmas.Bool.{and_parts}
 use Rattle.std.proofs.lemmas.Bool.Decides.{nat_tests}
 use Rattle.std.proofs.lemmas.List.Sums.{sum_by-cons}
 
@@ -36,10 +35,6 @@ any_either p q (x ∷ xs) = ap (λ later. (p x || q x) || later) (any_either p q
         or_true true = refl
         or_true false = refl
     sorted false false = refl
-
-pub count_all : {X : Type 0} (xs : List X) → count_by (λ _. true) xs ≡ length xs
-count_all [] = refl
-count_all (x ∷ xs) = omega (arith, counted_first (λ _. true) x xs, count_all xs)
 
 -- ---- where none fails a test
 
@@ -116,17 +111,3 @@ all_pass good (x ∷ xs) none =
         → (count_by (λ y. not (good y)) xs ≡ 0 → list_all good xs ≡ true) → (b && list_all good xs) ≡ true
     by_good true left rest = rest (omega (arith, left))
     by_good false left rest = absurd (omega (arith, left))
-
--- and one that passes another test passes this
-pub good_among : {X : Type 0} (good p : X → Bool) (xs : List X) → list_all good xs ≡ true → list_any p xs ≡ true
-    → (x : X) × (good x ≡ true) × (p x ≡ true)
-good_among good p [] all some = cc
-good_among good p (x ∷ xs) all some =
-    let parts = and_parts (good x) (list_all good xs) all in
-    by_test (p x) refl some parts.0 (good_among good p xs parts.1)
-  where
-    by_test : (b : Bool) → p x ≡ b → (b || list_any p xs) ≡ true → good x ≡ true
-        → (list_any p xs ≡ true → (y : _) × (good y ≡ true) × (p y ≡ true))
-        → (y : _) × (good y ≡ true) × (p y ≡ true)
-    by_test true is found here rest = (x, here, is)
-    by_test false is found here rest = rest found

@@ -59,19 +59,6 @@ one_further first key page from =
     by_object true false c w = refl
     by_object false b c w = refl
 
--- none are from a page on and below it
-pub none_between : (first key : PageKey) → is_from first first.page key ≡ false
-none_between first key =
-    by_object (first.file == key.file && first.object == key.object && first.access == key.access
-    && cond first.write key.write (not key.write))
-  where
-    by_number : (x n : ℕ) → (nat_le x n && nat_lt n x) ≡ false
-    by_number x n = grind (arith, nat_tests)
-
-    by_object : (a : Bool) → (a && (nat_le first.page key.page && nat_lt key.page first.page)) ≡ false
-    by_object true = by_number first.page key.page
-    by_object false = refl
-
 -- nor is a page below itself
 pub not_before : (first : PageKey) (page : ℕ) → is_from first page (at_page first page) ≡ false
 not_before first page =

@@ -1,9 +1,8 @@
 -- Words behind a structure.
 use Rattle.std.proofs.Common.{◌≡◌, ℕ, zero, suc, ◌+◌, ◌*◌, ◌<◌, ◌≤◌, List, [], ◌∷◌, ◌++◌, length}
-use Rattle.std.proofs.Common.{take, drop, refl, sym, ap, ◌∙◌, append_assoc, add-one, get_or, arith}
+use Rattle.std.proofs.Common.{take, drop, sym, ap, ◌∙◌, append_assoc, add-one, get_or, arith}
 use Rattle.std.specs.Int.{w64, to_le_bytes}
 use Rattle.std.proofs.lemmas.List.{append-nil, drop_at, drop-drop, length-append, length-take, take_at}
-use Rattle.std.proofs.lemmas.List.{take-append-drop}
 use Rattle.ioctl_codec.specs.Spelling.{words_bytes}
 
 words_bytes_suc : (i : ℕ) (words : List ℕ) → i < length words
@@ -19,10 +18,6 @@ pub record AreWritten (words : List ℕ) (i at : ℕ) (before now : List ℕ) (p
   pub place_is : place ≡ at + 8 * i
   pub written : take place now ≡ take at before ++ words_bytes (take i words)
   pub rest : drop place now ≡ drop place before
-
-pub none_written : (words : List ℕ) (at : ℕ) (before : List ℕ) → AreWritten words 0 at before before at
-none_written words at before =
-    record { place_is = omega arith; written = sym (append-nil (take at before)); rest = refl }
 
 pub word_more : {words : List ℕ} {i at : ℕ} {before now : List ℕ} {place : ℕ} (next : List ℕ) (after : ℕ)
     → AreWritten words i at before now place → i < length words → place ≤ length now
@@ -49,17 +44,6 @@ word_more {words} {i} {at} {before} {now} {place} next after h lt enough e place
         h.rest,
       ) (drop-drop 8 place before);
     }
-
--- with all of them
-pub all_words : {words : List ℕ} {i at : ℕ} {before now : List ℕ} {place : ℕ}
-    → AreWritten words i at before now place → take i words ≡ words
-    → now ≡ take at before ++ (words_bytes words ++ drop place before)
-all_words {words} {i} {at} {before} {now} {place} h all =
-    sym (take-append-drop place now)
-    ∙ ap (λ (xs : List ℕ). xs ++ drop place now)
-    (h.written ∙ ap (λ (xs : List ℕ). take at before ++ words_bytes xs) all)
-    ∙ ap (λ (xs : List ℕ). (take at before ++ words_bytes words) ++ xs) h.rest
-    ∙ append_assoc (take at before) (words_bytes words) (drop place before)
 
 -- words are written behind a structure
 pub behind_structure : (structure words before middle after : List ℕ) (place end count : ℕ)

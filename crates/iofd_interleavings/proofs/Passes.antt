@@ -1,5 +1,5 @@
 -- In a world of a run, an access that has an entry with the right in a sound set passes at the entry's frame.
-use Rattle.std.proofs.Common.{◌≡◌, ◌<◌, ◌≤◌, ℕ, ◌^◌, ◌+◌, ◌-◌, ◌*◌, ◌/◌, ◌%◌, Bool, true, false, cond, ◌&&◌, ◌||◌, eqb}
+use Rattle.std.proofs.Common.{◌≡◌, ◌<◌, ◌≤◌, ℕ, ◌^◌, ◌+◌, ◌-◌, ◌*◌, ◌/◌, ◌%◌, Bool, true, false, cond, ◌&&◌, eqb}
 use Rattle.std.proofs.Common.{leb, ltb, Option, Some, None, is_none, List, [], ◌∷◌, ◌++◌, refl, ap, sym, ◌∙◌, subst}
 use Rattle.std.proofs.Common.{arith, inl}
 use Rattle.std.specs.List.{list_all, list_any}
@@ -93,9 +93,6 @@ in_phase device (Leaving owed tries) x deny may =
     subst (λ (b : Bool). IsIn (cond b (x ∷ [] ++ deny) deny) x) (sym may) (inl refl)
 
 -- ---- nothing refuses the access
-
-none_true : (a b c : Bool) → a ≡ false → b ≡ false → c ≡ false → (a || b || c) ≡ false
-none_true a b c x y z = rw (x, y, z) refl
 
 -- ---- an entry that is backed, in a world where all this holds
 

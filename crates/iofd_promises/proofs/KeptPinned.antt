@@ -41,9 +41,6 @@ use Rattle.iofd_words.specs.declared.width.Width.{Width}
 itself : (n : ℕ) → eqb n n ≡ true
 itself n = grind (arith, nat_tests)
 
-flipped : (m n : ℕ) → eqb m n ≡ true → eqb n m ≡ true
-flipped m n is = grind (arith, nat_tests)
-
 -- ---- a pin of an address space
 
 -- the ioas that an attached access object has

@@ -5,12 +5,10 @@ use Rattle.std.proofs.Common.{⊎_elim, arith}
 use Rattle.std.specs.List.{filter, list_any}
 use Rattle.std.proofs.lemmas.Bool.Decides.{nat_tests}
 use Rattle.iofd_rows.proofs.Accesses.{kind_reattached, reattached}
-use Rattle.iofd_rows.proofs.Bools.{and_true, both_true, clash}
+use Rattle.iofd_rows.proofs.Bools.{and_true, both_true}
 use Rattle.iofd_rows.proofs.Each.{IsIn, in_filter, in_map, in_with_object, of_all, of_any, of_each}
-use Rattle.iofd_rows.proofs.ListTests.{false_else}
-use Rattle.iofd_rows.proofs.Named.{file_is, id_is, kind_before, kind_kept, object_of_kind}
+use Rattle.iofd_rows.proofs.Named.{file_is, kind_before, kind_kept, object_of_kind}
 use Rattle.iofd_rows.proofs.Owed.{IsSpace, space_of}
-use Rattle.iofd_rows.proofs.Unusable.{none_of}
 use Rattle.iofd_rows.specs.AccessPins.{are_in_spaces, is_in_space}
 use Rattle.iofd_words.specs.Objects.{access_ioas, access_ioas_of, has_access_to, has_ioas, is_access, is_access_to}
 use Rattle.iofd_words.specs.Objects.{is_ioas, is_object, kind_of, with_access, with_object}
@@ -78,23 +76,6 @@ attached_in objects file id ioas all is =
       access = access;
       space = rw (← of_file) (each_in_space objects all x within ioas (ap access_ioas of_kind));
     }
-
--- no access object is attached to what is no address space
-pub none_attached : (objects : List Object) (file : FileNo) (id : ObjId) → are_in_spaces objects ≡ true
-    → has_ioas objects file id ≡ false → has_access_to objects file id ≡ false
-none_attached objects file id all no_space =
-    none_of (λ (o : Object). eqb o.file.0 file.0 && is_access_to id o.kind) objects
-    (λ o among. false_else _ (λ both.
-    let parts = and_true (eqb o.file.0 file.0) (is_access_to id o.kind) both in
-    by_space o among parts.0 (access_ioas o.kind) refl parts.1))
-  where
-    by_space : (o : Object) → IsIn objects o → eqb o.file.0 file.0 ≡ true → (to : Option ObjId)
-        → access_ioas o.kind ≡ to → elim to [ Some attached ↦ eqb attached.0 id.0 | None ↦ false ] ≡ true → ⊥
-    by_space o among own None is to_it = cc
-    by_space o among own (Some ioas) is to_it =
-        let here = has_space objects o.file ioas (each_in_space objects all o among ioas is) in
-        let there : has_ioas objects file id ≡ true = rw (← file_is o.file file own, ← id_is ioas id to_it) here in
-        clash _ no_space there
 
 -- ---- objects come and go
 

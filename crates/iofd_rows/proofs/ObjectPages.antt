@@ -35,13 +35,6 @@ pub in_pinned : (objects : List Object) (areas : List Area) (memory : List Memor
     && is_pinned objects areas pins page)
 in_pinned objects areas memory pins page = any_kept (is_pinned objects areas pins) (flat_map pages_of memory) page
 
--- without access pins a page is to be pinned where a page table translates its memory object
-pub pinned_without : (objects : List Object) (areas : List Area) (pins : List AccessPin) (page : ObjectPage)
-    → pins ≡ [] → is_pinned objects areas pins page ≡ is_translated objects areas page.memory
-pinned_without objects areas pins page without =
-    ap (λ (l : List AccessPin). is_pinned objects areas l page) without
-    ∙ or_none (is_translated objects areas page.memory)
-
 -- the memory object of this number has so many pages
 abbrev pub has_page : ObjectPage → MemoryObject → Bool
 has_page page m = eqb page.memory m.number && ltb page.index m.count

@@ -9,13 +9,12 @@ use Rattle.iofd_rows.specs.Pinned.{share_in_file, share_in_files}
 use Rattle.iofd_words.specs.declared.numbers.FileNo.{FileNo}
 use Rattle.iofd_words.specs.declared.rows.Area.{Area}
 use Rattle.iofd_words.specs.declared.rows.MemoryObject.{MemoryObject}
-use Rattle.iofd_words.specs.declared.rows.Object.{Object}
 use Rattle.iofd_words.specs.declared.rows.Phase.{Phase}
 use Rattle.iofd_rows.proofs.Bools.{and_true, both_true, or_false}
 use Rattle.iofd_rows.proofs.Each.{of_all, of_each}
 use Rattle.iofd_rows.proofs.Found.{all_filter, all_map, all_weaker}
 use Rattle.iofd_rows.proofs.ListTests.{all_pass, any-filter, any_of_all, any_weaker, or_left, or_right}
-use Rattle.iofd_rows.proofs.PageLists.{any-with_area, pages_by_area}
+use Rattle.iofd_rows.proofs.PageLists.{any-with_area}
 
 -- some area has this memory object
 abbrev pub has_area : List Area → ℕ → Bool
@@ -163,8 +162,3 @@ areas-map phase areas memory used =
     all_weaker (λ (m : MemoryObject). has_area areas m.number)
     (λ (m : MemoryObject). has_area (map (λ (a : Area). with_phase (phase a) a) areas) m.number) memory
     (λ m has. has_area-map phase areas m.number ∙ has) used
-
-pub pages_by_area-map : (objects : List Object) (phase : Area → Phase) (areas : List Area)
-    → pages_by_area objects (map (λ (a : Area). with_phase (phase a) a) areas) ≡ pages_by_area objects areas
-pages_by_area-map objects phase [] = refl
-pages_by_area-map objects phase (a ∷ areas) = rw (pages_by_area-map objects phase areas) refl

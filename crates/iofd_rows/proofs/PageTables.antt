@@ -6,13 +6,11 @@ use Rattle.iofd_words.specs.Objects.{comes_before, has_hwpt, is_bound_device, is
 use Rattle.iofd_words.specs.Objects.{without_device_object}
 use Rattle.iofd_words.specs.declared.numbers.FileNo.{FileNo}
 use Rattle.iofd_words.specs.declared.numbers.ObjId.{ObjId}
-use Rattle.iofd_words.specs.declared.rows.Area.{Area}
 use Rattle.iofd_words.specs.declared.rows.Object.{Object}
 use Rattle.iofd_words.specs.declared.rows.ObjectKind.{ObjectKind}
 use Rattle.iofd_words.specs.declared.rows.ObjectKind.TheVariants as kind
 use Rattle.iofd_rows.proofs.Bools.{and_true, both_true, swapped}
 use Rattle.iofd_rows.proofs.ListTests.{alike, any-filter, any_weaker}
-use Rattle.iofd_rows.proofs.PageLists.{pages_by_area}
 
 any-with_object : (p : Object → Bool) (x : Object) (objects : List Object)
     → list_any p (with_object x objects) ≡ (p x || list_any p objects)
@@ -83,10 +81,3 @@ hwpt_alike objects file own ioas over file_is ioas_is =
     let same_space : record { 0 = over.0 } ≡ record { 0 = ioas.0 } =
     ap (λ n. let i : ObjId = record { 0 = n } in i) (sym spaces) in
     ap (λ f. has_hwpt objects f over) same_file ∙ ap (has_hwpt objects file) same_space
-
--- the same page tables pin the same pages
-pub pinned_alike : (objects left : List Object) (areas : List Area)
-    → ((file : FileNo) (ioas : ObjId) → has_hwpt left file ioas ≡ has_hwpt objects file ioas)
-    → pages_by_area left areas ≡ pages_by_area objects areas
-pinned_alike objects left [] same = refl
-pinned_alike objects left (a ∷ areas) same = rw (same a.file a.ioas, pinned_alike objects left areas same) refl

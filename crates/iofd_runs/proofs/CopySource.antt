@@ -1,14 +1,12 @@
 -- The area whose memory a COPY maps again: it stands, is live and of the source's address space, and its span is
 -- exactly the source's. So the new area's memory object is there and has the new area's size.
-use Rattle.std.proofs.Common.{◌≡◌, ◌<◌, ℕ, ◌+◌, ◌-◌, ◌*◌, true, false, ◌&&◌, eqb, is_none, Option, Some, None, refl, ap}
-use Rattle.std.proofs.Common.{sym, ◌∙◌, arith}
-use Rattle.std.specs.List.{list_any}
+use Rattle.std.proofs.Common.{◌≡◌, ◌<◌, ℕ, ◌+◌, ◌-◌, true, false, ◌&&◌, eqb, is_none, Option, Some, None, refl}
+use Rattle.std.proofs.Common.{arith}
 use Rattle.std.proofs.lemmas.Bool.{eqb-true}
 use Rattle.std.proofs.lemmas.Bool.Decides.{nat_tests}
-use Rattle.iofd_words.specs.After.{mapped_area}
 use Rattle.iofd_words.specs.Areas.{areas_of, is_of}
 use Rattle.iofd_words.specs.Checks.{copy_checks}
-use Rattle.iofd_words.specs.Copies.{is_live_at, placed_as, source_in}
+use Rattle.iofd_words.specs.Copies.{is_live_at, source_in}
 use Rattle.iofd_words.specs.FirstTrue.{first_true}
 use Rattle.iofd_words.specs.Span.{size_of, span_from}
 use Rattle.iofd_words.specs.TablePlaces.{is_live}
@@ -18,10 +16,8 @@ use Rattle.iofd_words.specs.declared.event.CopyRequest.{CopyRequest}
 use Rattle.iofd_words.specs.declared.numbers.FileNo.{FileNo}
 use Rattle.iofd_words.specs.declared.numbers.Iova.{Iova}
 use Rattle.iofd_words.specs.declared.rows.Area.{Area}
-use Rattle.iofd_words.specs.declared.rows.MemoryObject.{MemoryObject}
-use Rattle.iofd_rows.specs.Pinned.{ArePinned, has_object}
 use Rattle.iofd_rows.proofs.Bools.{and_true}
-use Rattle.iofd_rows.proofs.Each.{IsIn, in_filter, in_found, of_each}
+use Rattle.iofd_rows.proofs.Each.{IsIn, in_filter, in_found}
 use Rattle.iofd_rows.proofs.Named.{file_is}
 use Rattle.iofd_runs.proofs.NotRefused.{copy_passed}
 
@@ -85,12 +81,3 @@ pub copied_size : (w : World) (file : FileNo) (request : CopyRequest) (iova : Io
 copied_size w file request iova source none is =
     one_size source.span.first source.span.last iova.0 request.length request.src_iova.0
     (copy_passed (view w) file request none).some is.first is.last
-
--- and its memory object is there, with that size
-pub copied_object : (at : ℕ) (w : World) (file : FileNo) (request : CopyRequest) (iova : Iova) (source : Area)
-    → ArePinned at w → first_true (copy_checks (view w) file request) ≡ None → IsSource w file request source
-    → has_object w.memory (mapped_area source.memory file (placed_as request) iova) ≡ true
-copied_object at w file request iova source p none is =
-    ap (λ (size : ℕ). list_any (λ (m : MemoryObject). eqb m.number source.memory && eqb (m.count * 4096) size) w.memory)
-    (sym (copied_size w file request iova source none is))
-    ∙ of_each (has_object w.memory) w.areas source p.sizes is.within

@@ -5,26 +5,20 @@ use Rattle.std.specs.Prelude.{map}
 use Rattle.std.specs.List.{filter}
 use Rattle.std.proofs.lemmas.Bool.Decides.{nat_tests}
 use Rattle.iofd_words.specs.After.{changed, mapped_area}
-use Rattle.iofd_words.specs.FirstTrue.{first_true}
-use Rattle.iofd_words.specs.Answers.{Answers, IsMappedAt}
+use Rattle.iofd_words.specs.Answers.{Answers}
 use Rattle.iofd_words.specs.Areas.{areas_meet, areas_of, is_of, meets_area, with_area, with_phase}
 use Rattle.iofd_words.specs.Bounds.{Bounds}
-use Rattle.iofd_words.specs.Checks.{map_checks, refusal}
+use Rattle.iofd_words.specs.Checks.{refusal}
 use Rattle.iofd_runs.specs.Apart.{are_apart}
-use Rattle.iofd_words.specs.Rights.{is_fixed}
-use Rattle.iofd_words.specs.Span.{meets, span_from}
-use Rattle.iofd_words.specs.View.{view}
+use Rattle.iofd_words.specs.Span.{meets}
 use Rattle.iofd_words.specs.World.{World}
 use Rattle.iofd_words.specs.declared.event.Event.{Event}
-use Rattle.iofd_words.specs.declared.event.MapRequest.{MapRequest}
 use Rattle.iofd_words.specs.declared.numbers.FileNo.{FileNo}
-use Rattle.iofd_words.specs.declared.numbers.Iova.{Iova}
 use Rattle.iofd_words.specs.declared.numbers.ObjId.{ObjId}
 use Rattle.iofd_words.specs.declared.reply.Reply.{Reply}
 use Rattle.iofd_words.specs.declared.rows.Area.{Area}
 use Rattle.iofd_words.specs.declared.rows.Phase.{Phase}
 use Rattle.iofd_rows.proofs.Bools.{or_false, and_true, both_false, not_true, swapped}
-use Rattle.iofd_runs.proofs.MappedAt.{lies_at}
 use Rattle.iofd_runs.proofs.Moves.{AreasMove, SameAreas, FewerAreas, OtherPhases, OneArea, changed_moves}
 
 -- a and b are of one address space, and have an address in common
@@ -125,12 +119,6 @@ are_apart-map phase [] = refl
 are_apart-map phase (a ∷ areas) = rw (meets_area-map phase areas a.file a.ioas a.span, are_apart-map phase areas) refl
 
 -- ---- every event keeps them apart
-
--- a MAP's span meets no area, be its address fixed or chosen
-map_is_free : (w : World) (file : FileNo) (request : MapRequest) (iova : Iova)
-    → IsMappedAt w file request (is_fixed request.flags) iova → first_true (map_checks (view w) file request) ≡ None
-    → meets_area w.areas file request.ioas (span_from iova.0 request.length) ≡ false
-map_is_free w file request iova is none = (lies_at w file request iova none is).apart
 
 pub keeps_apart : {A : Type 0} → (at : ℕ) (w : World) (e : Event A) (answer : Reply) → refusal w e ≡ None
     → Answers w e answer → are_apart w.areas ≡ true → are_apart (changed at w e answer).areas ≡ true

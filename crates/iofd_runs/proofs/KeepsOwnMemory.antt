@@ -1,13 +1,10 @@
 -- Every event leaves the memory objects of each file its own: only areas of one file share them.
-use Rattle.std.proofs.Common.{◌≡◌, ℕ, ◌+◌, true, Some, None, List, not}
-use Rattle.iofd_words.specs.After.{changed, copy_changes, mapped_area}
-use Rattle.iofd_words.specs.Answers.{Answers, IsMappedAt}
-use Rattle.iofd_words.specs.Checks.{copy_checks, refusal}
-use Rattle.iofd_words.specs.FirstTrue.{first_true}
+use Rattle.std.proofs.Common.{◌≡◌, ℕ, ◌+◌, true, None, List, not}
+use Rattle.iofd_words.specs.After.{changed, mapped_area}
+use Rattle.iofd_words.specs.Answers.{Answers}
+use Rattle.iofd_words.specs.Checks.{refusal}
 use Rattle.iofd_words.specs.Tables.{with_tables}
-use Rattle.iofd_words.specs.View.{view}
 use Rattle.iofd_words.specs.World.{World}
-use Rattle.iofd_words.specs.declared.event.CopyRequest.{CopyRequest}
 use Rattle.iofd_words.specs.declared.event.Event.{Event}
 use Rattle.iofd_words.specs.declared.numbers.FileNo.{FileNo}
 use Rattle.iofd_words.specs.declared.numbers.FrameNo.{FrameNo}
@@ -15,7 +12,6 @@ use Rattle.iofd_words.specs.declared.numbers.Iova.{Iova}
 use Rattle.iofd_words.specs.declared.reply.Reply.{Reply}
 use Rattle.iofd_words.specs.declared.rows.Area.{Area}
 use Rattle.iofd_rows.specs.Pinned.{ArePinned, share_in_file, share_in_files}
-use Rattle.iofd_runs.proofs.CopySource.{source_area}
 use Rattle.iofd_runs.proofs.KeepsPins.{keeps_pins, later_pinned, tabled_pinned}
 use Rattle.iofd_rows.proofs.Each.{of_each}
 use Rattle.iofd_rows.proofs.OwnMemory.{shared-filter, shared-map, shared-with_area, shares_none}
@@ -25,10 +21,6 @@ use Rattle.iofd_runs.proofs.Moves.{SharedMemory, changed_moves}
 use Rattle.iofd_words.specs.declared.rows.MemoryObject.{MemoryObject}
 use Rattle.iofd_words.specs.declared.event.MapRequest.{MapRequest}
 use Rattle.iofd_runs.proofs.PagesToPin.{none_over}
-use Rattle.iofd_words.specs.declared.event.Event.TheVariants as event
-use Rattle.iofd_words.specs.declared.reply.Reply.TheVariants as reply
-use Rattle.iofd_words.specs.Copies.{placed_as}
-use Rattle.iofd_words.specs.Rights.{is_fixed}
 
 pub keeps_own_memory : {A : Type 0} → (at : ℕ) (w : World) (e : Event A) (answer : Reply) → ArePinned at w
     → share_in_files w.areas ≡ true → share_in_files (changed at w e answer).areas ≡ true
@@ -65,20 +57,6 @@ tabled_own at w taken given p = record { pins = tabled_pinned at w taken given p
 
 pub later_own : (at : ℕ) (w : World) → OwnPins at w → OwnPins (at + 1) w
 later_own at w p = record { pins = later_pinned at w p.pins; own = p.own }
-
--- after a COPY of this source
-pub copied_own : (at : ℕ) (w : World) (file : FileNo) (request : CopyRequest) (iova : Iova) (source : Area)
-    → first_true (copy_checks (view w) file request) ≡ None
-    → IsMappedAt w file (placed_as request) (is_fixed request.flags) iova → source_area w file request ≡ Some source
-    → OwnPins at w → OwnPins (at + 1) (copy_changes w file request iova (Some source))
-unfolding changed Answers
-copied_own at w file request iova source none place found p =
-    let e : Event (Unit {0}) = event.Copy file request in
-    let after : OwnPins (at + 1) (copy_changes w file request iova (source_area w file request)) = record {
-      pins = keeps_pins at w e (reply.Iova iova) none place p.pins;
-      own = keeps_own_memory at w e (reply.Iova iova) p.pins p.own;
-    } in
-    rw found at after
 
 pub keeps_own_pins : {A : Type 0} → (at : ℕ) (w : World) (e : Event A) (answer : Reply) → refusal w e ≡ None
     → Answers w e answer → OwnPins at w → OwnPins (at + 1) (changed at w e answer)

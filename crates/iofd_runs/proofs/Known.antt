@@ -1,10 +1,9 @@
 -- Objects are of open files, and the devices that are bound or attached are of the settings.
 use Rattle.std.proofs.Common.{◌≡◌, ℕ, Bool, true, false, ◌&&◌, ◌||◌, not, eqb, is_some, List, [], ◌∷◌, ◌++◌, Some, None}
-use Rattle.std.proofs.Common.{Option, refl, sym, ap, ◌∙◌, arith, ⊎_elim}
+use Rattle.std.proofs.Common.{refl, sym, ap, ◌∙◌, arith, ⊎_elim}
 use Rattle.std.specs.List.{filter, list_all, list_any}
 use Rattle.std.proofs.lemmas.Bool.{eqb-true}
 use Rattle.std.proofs.lemmas.Bool.Decides.{nat_tests}
-use Rattle.iofd_words.specs.After.{with_hwpt}
 use Rattle.iofd_words.specs.Attachments.{with_attachment}
 use Rattle.iofd_words.specs.Checks.{bind_checks, ioas_alloc_checks}
 use Rattle.iofd_words.specs.Files.{is_device, is_open, numbered, user_of}
@@ -16,12 +15,10 @@ use Rattle.iofd_words.specs.View.{view}
 use Rattle.iofd_words.specs.World.{World}
 use Rattle.iofd_words.specs.declared.numbers.DeviceNo.{DeviceNo}
 use Rattle.iofd_words.specs.declared.numbers.FileNo.{FileNo}
-use Rattle.iofd_words.specs.declared.numbers.ObjId.{ObjId}
 use Rattle.iofd_words.specs.declared.rows.Attachment.{Attachment}
 use Rattle.iofd_words.specs.declared.rows.Object.{Object}
 use Rattle.iofd_words.specs.declared.rows.ObjectKind.{ObjectKind}
 use Rattle.iofd_words.specs.declared.rows.ObjectKind.TheVariants as kind
-use Rattle.iofd_words.specs.declared.width.Width.{Width}
 use Rattle.iofd_rows.proofs.Bools.{and_true, both_false, both_true, not_false, not_true}
 use Rattle.iofd_rows.proofs.Each.{in_filter, in_found, in_with_attachment, in_with_object, of_all, of_each, IsIn}
 use Rattle.iofd_runs.proofs.NotRefused.{alloc_passed, bind_passed}
@@ -53,15 +50,6 @@ attached_one settings a attachments here all =
     (λ (new : a ≡ x). ap (λ (b : Attachment). is_device settings b.device) (sym new) ∙ here)
     (λ (old : IsIn attachments x). of_each (λ (b : Attachment). is_device settings b.device) attachments x all old)
     (in_with_attachment a attachments x within))
-
-pub known_hwpt : (settings : Settings) (closed : List FileNo) (file : FileNo) (ioas id : ObjId) (width : Width)
-    (automatic : Option Object) (objects : List Object) → is_open settings closed file ≡ true
-    → list_all (is_known settings closed) objects ≡ true
-    → list_all (is_known settings closed) (with_hwpt file ioas id width automatic objects) ≡ true
-known_hwpt settings closed file ioas id width (Some object) objects here all = all
-known_hwpt settings closed file ioas id width None objects here all =
-    known_one (is_known settings closed) (record { file = file; id = id; kind = kind.Hwpt ioas width true }) objects
-    (both_true _ _ here refl) all
 
 -- ---- a file is closed
 
@@ -135,7 +123,3 @@ alloc_open w file none = (alloc_passed (view w) file none).opened
 pub bind_open : (w : World) (file : FileNo) (device : DeviceNo) → first_true (bind_checks (view w) file device) ≡ None
     → is_open w.settings w.closed file ≡ true
 bind_open w file device none = (bind_passed (view w) file device none).opened
-
-pub bind_device : (w : World) (file : FileNo) (device : DeviceNo) → first_true (bind_checks (view w) file device) ≡ None
-    → is_device w.settings device ≡ true
-bind_device w file device none = (bind_passed (view w) file device none).known

@@ -1,6 +1,6 @@
 -- Where the test finds a pass at a frame among what may come of an access, it is among them, and what is told of it among
 -- what is told of them.
-use Rattle.std.proofs.Common.{◌≡◌, ℕ, zero, suc, Bool, true, false, ◌||◌, eqb, List, [], ◌∷◌, map, Contains, refl, ap}
+use Rattle.std.proofs.Common.{◌≡◌, zero, suc, Bool, true, false, ◌||◌, eqb, List, [], ◌∷◌, map, Contains, refl, ap}
 use Rattle.std.proofs.Common.{arith}
 use Rattle.std.specs.List.{list_any}
 use Rattle.std.proofs.lemmas.Bool.Decides.{nat_tests}

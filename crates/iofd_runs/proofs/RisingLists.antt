@@ -1,5 +1,5 @@
 -- Objects that stand by rising file and id: after one more or fewer, and what a filter keeps of one more.
-use Rattle.std.proofs.Common.{◌≡◌, Bool, true, false, cond, List, [], ◌∷◌, refl, ap, sym, arith, Option, ◌∙◌}
+use Rattle.std.proofs.Common.{◌≡◌, Bool, true, false, cond, List, [], ◌∷◌, refl, sym, arith, Option, ◌∙◌}
 use Rattle.std.specs.List.{filter, list_all, list_any}
 use Rattle.std.proofs.lemmas.Bool.Decides.{nat_tests}
 use Rattle.iofd_words.specs.Objects.{comes_before, is_object, with_object, with_access}
@@ -125,15 +125,3 @@ filter-with_object test object (o ∷ objects) passes rise =
         (filter test (o ∷ objects))
     by_order true before above rest = rw passes (sym (first before above))
     by_order false after above rest = by_test (test o) after rest
-
--- one that doesn't pass changes nothing of those that do
-pub filter-with_other : (test : Object → Bool) (object : Object) (objects : List Object) → test object ≡ false
-    → filter test (with_object object objects) ≡ filter test objects
-filter-with_other test object [] fails = rw fails refl
-filter-with_other test object (o ∷ objects) fails =
-    by_order (comes_before object o) (filter-with_other test object objects fails)
-  where
-    by_order : (b : Bool) → filter test (with_object object objects) ≡ filter test objects
-        → filter test (cond b (object ∷ o ∷ objects) (o ∷ with_object object objects)) ≡ filter test (o ∷ objects)
-    by_order true rest = rw fails refl
-    by_order false rest = ap (λ (os : List Object). cond (test o) (o ∷ os) os) rest

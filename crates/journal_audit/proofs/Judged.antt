@@ -34,11 +34,6 @@ module _ {A : Type 0} where
   judged at old new raw r false tells is left =
       λ q told lawful. is (subst (λ (x : Record A). Lawful at old x) (one_told old.settings raw q r told tells) lawful)
 
-  -- none is told
-  pub untold : (at : ℕ) (old new : World) (raw : Raw) → ((r : Record A) → Tells old.settings raw r → ⊥)
-      → IsJudged A at old new raw false
-  untold at old new raw none = λ r tells lawful. none r tells
-
   pub none_told : (s : Settings) (spelled : SpelledRecord A) → reply_of s spelled.event spelled.reply ≡ None
       → (r : Record A) → Tells s (raw_of spelled) r → ⊥
   none_told s spelled none r tells =

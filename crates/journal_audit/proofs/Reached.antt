@@ -12,7 +12,7 @@ use Rattle.iofd_runs.proofs.SameSettings.{keeps_settings, tabled_settings}
 use Rattle.journal_audit.specs.Next.{IsNext}
 use Rattle.journal_audit.specs.Verdict.{BeginNoRecord, BeginWithRun, IsVerdict}
 use Rattle.journal_audit.specs.declared.next.Next.TheVariants as next
-use Rattle.journal_audit.specs.declared.verdict.Verdict.TheVariants.{Run, NotRun, Torn}
+use Rattle.journal_audit.specs.declared.verdict.Verdict.TheVariants.{NotRun, Torn}
 use Rattle.journal_audit_bytes.specs.Format.{Raw, Spells}
 use Rattle.journal_audit_bytes.specs.Head.{SpellsHead}
 use Rattle.journal_audit_bytes.specs.HeadReading.{head_at, version_at}
@@ -166,16 +166,6 @@ module _ {A : Type 0} (version : Version) where
       }
 
   -- ---- the end
-
-  pub all_run : (bytes : List ℕ) (s : Settings) (rest : List ℕ) (world : World) (index : ℕ) → rest ≡ []
-      → IsReached A version bytes s rest world index → IsVerdict A bytes (Run index)
-  all_run bytes s rest world index ends reached = (
-    version,
-    s,
-    reached.records,
-    subst (λ (x : List ℕ). BeginWithRun bytes version s reached.records x) ends reached.begin,
-    reached.count,
-  )
 
   pub none_goes_on : (bytes : List ℕ) (s : Settings) (rest behind : List ℕ) (world new : World) (index : ℕ)
       → IsReached A version bytes s rest world index → IsNext A version index world new rest behind next.Not

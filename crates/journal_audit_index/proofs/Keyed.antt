@@ -1,5 +1,5 @@
 -- Numbers and pairs among the keys of a set.
-use Rattle.std.proofs.Common.{◌≡◌, ◌≤◌, ◌<◌, ℕ, Bool, true, false, cond, ◌&&◌, ◌||◌, eqb, ltb, List, [], ◌∷◌, min, max}
+use Rattle.std.proofs.Common.{◌≡◌, ◌≤◌, ℕ, Bool, true, false, cond, ◌&&◌, ◌||◌, eqb, ltb, List, [], ◌∷◌, min, max}
 use Rattle.std.proofs.Common.{Less, Equal, Greater, refl, sym, ap, ◌∙◌, arith}
 use Rattle.std.proofs.lemmas.Bool.{eqb-true}
 use Rattle.std.proofs.lemmas.Bool.Decides.{nat_tests}
@@ -42,11 +42,6 @@ number_added old new number more other =
     ∙ ap (λ b. cond (eqb number other) true b) (number_is other old)
     ∙ flipped (eqb number other) (has_number old other)
 
--- no number is within where there is none
-pub none_within : (keys : List ℕ) (low high : ℕ) → keys ≡ [] → AreWithin low high keys
-none_within keys low high none n has =
-    let never : false ≡ true = sym (ap (λ ks. has_number ks n) none) ∙ has in cc
-
 -- the bounds with one number more
 pub more_within : (old new : List ℕ) (low high number : ℕ) → AreWithin low high old
     → ((other : ℕ) → has_number new other ≡ (has_number old other || eqb number other))
@@ -58,21 +53,6 @@ more_within old new low high number within more n has =
         → (min low number ≤ n) × (n ≤ max high number)
     by_test true is one = let parts = within n is in (omega arith, omega arith)
     by_test false is one = let same : number ≡ n = eqb-true number n one in (omega arith, omega arith)
-
--- one outside the bounds isn't there
-pub below_none : (keys : List ℕ) (low high n : ℕ) → AreWithin low high keys → n < low → false ≡ has_number keys n
-below_none keys low high n within below = by_test (has_number keys n) refl
-  where
-    by_test : (b : Bool) → has_number keys n ≡ b → false ≡ b
-    by_test true is = let parts = within n is in absurd (omega arith)
-    by_test false is = refl
-
-pub above_none : (keys : List ℕ) (low high n : ℕ) → AreWithin low high keys → high < n → false ≡ has_number keys n
-above_none keys low high n within above = by_test (has_number keys n) refl
-  where
-    by_test : (b : Bool) → has_number keys n ≡ b → false ≡ b
-    by_test true is = let parts = within n is in absurd (omega arith)
-    by_test false is = refl
 
 -- ---- pairs
 

@@ -1,6 +1,6 @@
 //! A set of numbers.
 
-ghost use Rattle.std.specs.Prelude.{◌≡◌, ◌==◌, ◌&&◌, ◌||◌, ℕ, [], IfOk, IsTrue, ◌↔◌};
+ghost use Rattle.std.specs.Prelude.{◌≡◌, ◌==◌, ◌&&◌, ◌||◌, ℕ, [], IfOk};
 ghost use Rattle.journal_audit_index.specs.Keys.{has_number};
 
 use iofd_words::NoMemory;
@@ -48,13 +48,6 @@ impl<A: Allocator> Numbers<A> {
             return false;
         }
         self.set.contains(&number)
-    }
-
-    /// Whether there is none.
-    pub fn is_empty(&self) -> bool
-        ensures { IsTrue result ↔ (self.now ≡ []) }
-    {
-        self.set.is_empty()
     }
 }
 

@@ -1,6 +1,6 @@
 //! A set of pairs of numbers.
 
-ghost use Rattle.std.specs.Prelude.{◌≡◌, ◌==◌, ◌&&◌, ◌||◌, ℕ, [], IfOk, IsTrue, ◌↔◌};
+ghost use Rattle.std.specs.Prelude.{◌≡◌, ◌==◌, ◌&&◌, ◌||◌, ℕ, [], IfOk};
 ghost use Rattle.journal_audit_index.specs.Keys.{has_pair};
 
 use iofd_words::NoMemory;
@@ -37,13 +37,6 @@ impl<A: Allocator> Pairs<A> {
         ensures { result ≡ has_pair self.now a b }
     {
         self.set.contains(&(a, b))
-    }
-
-    /// Whether there is none.
-    pub fn is_empty(&self) -> bool
-        ensures { IsTrue result ↔ (self.now ≡ []) }
-    {
-        self.set.is_empty()
     }
 }
 

@@ -116,14 +116,6 @@ size_is start bytes some = let above : 0 < bytes = search (some, arith, nat_test
 
 module _ (v w : World) (file : FileNo) (request : MapRequest) (found : Option ℕ) (same : v ≡ w)
     (is : found ≡ mapped_start (view w) file request) where
-  -- none where no address can be told
-  pub placeless : found ≡ None → false ≡ lacks_mapped_frames (view w) file request
-  placeless none =
-      ap (λ (o : Option ℕ). elim o as (λ _. Bool) [
-        | Some at ↦ ltb (view w).free_count (tables_to_map (view w) file request.ioas (span_from at request.length))
-        | None ↦ false
-      ]) (sym none ∙ is)
-
   module _ (start first count : ℕ) (tables : List TableFrame) (objects : List Object) (missing : List MissingTable)
       (some : eqb request.length 0 ≡ false) (told : found ≡ Some start)
       (listed : missing ≡ missing_over tables file request.ioas (range_with_len first count) objects)

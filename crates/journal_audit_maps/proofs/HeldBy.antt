@@ -1,8 +1,8 @@
 -- A user's account counted by pins is that of the definitions, which count pages.
 use Rattle.std.proofs.Common.{◌≡◌, ℕ, ◌+◌, Bool, true, false, cond, ◌&&◌, ◌||◌, not, eqb, ltb, is_some, Option, Some, None}
-use Rattle.std.proofs.Common.{◌≤◌, ◌<◌, suc, List, [], ◌∷◌, length, get_or, drop, map, find, refl, sym, ap, ◌∙◌, arith, inl, inr}
+use Rattle.std.proofs.Common.{◌≤◌, ◌<◌, suc, List, [], ◌∷◌, length, get_or, map, find, refl, sym, ap, ◌∙◌, arith, inl, inr}
 use Rattle.std.specs.List.{HoldsAt, count_by, filter, flat_map, list_any}
-use Rattle.std.proofs.lemmas.List.{drop_more, get_or_default}
+use Rattle.std.proofs.lemmas.List.{get_or_default}
 use Rattle.std.proofs.lemmas.Bool.{eqb-true}
 use Rattle.std.proofs.lemmas.Bool.Decides.{nat_tests}
 use Rattle.iofd_rows.proofs.Bools.{and_true, both_true, clash, not_false, not_true}
@@ -203,15 +203,6 @@ count_few p (pin ∷ pins) =
         → count_by p (pin ∷ pins) ≤ suc (length pins)
     by_test true one rest = omega (arith, one, rest)
     by_test false one rest = omega (arith, one, rest)
-
--- one pin more
-pub counted_more : (p : Pin → Bool) (pins : List Pin) (i : ℕ) (d : Pin) (count new : ℕ) → i < length pins
-    → new ≡ count + cond (p (get_or pins i d)) 1 0 → count + count_by p (drop i pins) ≡ count_by p pins
-    → new + count_by p (drop (i + 1) pins) ≡ count_by p pins
-counted_more p pins i d count new within is before =
-    let all = ap (count_by p) (drop_more pins i d within) in
-    let one = count-cons p (get_or pins i d) (drop (i + 1) pins) in
-    omega (arith, is, before, all, one)
 
 -- ---- the limit
 

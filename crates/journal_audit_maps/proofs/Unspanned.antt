@@ -1,8 +1,8 @@
 -- Memory objects of which no page lies in a span: those of areas that don't meet it.
-use Rattle.std.proofs.Common.{◌≡◌, ◌≤◌, ◌<◌, ℕ, suc, ◌+◌, ◌-◌, ◌*◌, ◌/◌, Bool, true, false, ◌&&◌, ◌||◌, eqb, leb, ltb}
+use Rattle.std.proofs.Common.{◌≡◌, ◌≤◌, ◌<◌, ℕ, suc, ◌+◌, ◌-◌, ◌*◌, ◌/◌, Bool, true, false, ◌&&◌, eqb, leb, ltb}
 use Rattle.std.proofs.Common.{zero, List, [], ◌∷◌, length, get_or, refl, sym, ap, ◌∙◌, arith, inl, inr}
 use Rattle.std.proofs.lemmas.Bool.Decides.{nat_tests}
-use Rattle.std.specs.List.{list_all, list_any}
+use Rattle.std.specs.List.{list_all}
 use Rattle.iofd_rows.specs.Pinned.{has_object, have_own_numbers}
 use Rattle.iofd_rows.proofs.Bools.{and_true, both_true, clash}
 use Rattle.iofd_rows.proofs.Each.{IsIn, of_any}
@@ -12,7 +12,7 @@ use Rattle.iofd_runs.proofs.Accessed.{of_areas, some_in}
 use Rattle.iofd_words.specs.Accesses.{is_spanned}
 use Rattle.iofd_words.specs.Areas.{areas_of, is_of}
 use Rattle.iofd_words.specs.Bounds.{Bounds}
-use Rattle.iofd_words.specs.Pins.{ObjectPage, pages_of, span_of_page}
+use Rattle.iofd_words.specs.Pins.{pages_of, span_of_page}
 use Rattle.iofd_words.specs.Span.{lies_in, meets, size_of}
 use Rattle.iofd_words.specs.declared.numbers.FileNo.{FileNo}
 use Rattle.iofd_words.specs.declared.numbers.ObjId.{ObjId}

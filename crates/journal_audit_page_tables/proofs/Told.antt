@@ -24,14 +24,3 @@ told_first (row ∷ xs) ys c is = by_test row.1 is (told_first xs ys c)
         → Some c ≡ cond b (Some row.0) (first_true (xs ++ ys))
     by_test true is later = is
     by_test false is later = later is
-
--- and the second where it has none
-pub told_later : (xs ys : List (Cause × Bool)) (o : Option Cause) → None ≡ first_true xs → o ≡ first_true ys
-    → o ≡ first_true (xs ++ ys)
-told_later [] ys o none is = is
-told_later (row ∷ xs) ys o none is = by_test row.1 none (λ later. told_later xs ys o later is)
-  where
-    by_test : (b : Bool) → None ≡ cond b (Some row.0) (first_true xs)
-        → (None ≡ first_true xs → o ≡ first_true (xs ++ ys)) → o ≡ cond b (Some row.0) (first_true (xs ++ ys))
-    by_test true none later = cc
-    by_test false none later = later none

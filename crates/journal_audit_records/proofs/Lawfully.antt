@@ -17,10 +17,6 @@ use Rattle.journal_audit_world.specs.Decides.{Decides}
 
 -- ---- tests
 
-pub so : {P : Type 0} (b : Bool) → b ≡ true → Decides b P → P
-so true is decides = decides
-so false is decides = cc
-
 pub not_so : {P : Type 0} (b : Bool) → b ≡ false → Decides b P → P → ⊥
 not_so true is decides = cc
 not_so false is decides = decides

@@ -278,34 +278,7 @@ lacks_more tables file hwpt old new xs ys first rest = record {
     tidy true b c = refl
     tidy false b c = refl
 
-pub lacks_none : (tables : List TableFrame) (file : FileNo) (hwpt : ObjId) (g : Gathered) → g.file ≡ file
-    → g.hwpt ≡ hwpt → g.found ≡ [] → ((place : TablePlace) → is_known g.known place ≡ has_table tables file hwpt place)
-    → Lacks tables file hwpt g []
-lacks_none tables file hwpt g at_file at_hwpt none known = record {
-  of_file = at_file;
-  of_hwpt = at_hwpt;
-  found = none;
-  known = λ other. known other ∙ same (has_table tables file hwpt other);
-}
-  where
-    same : (b : Bool) → b ≡ (b || false)
-    same true = refl
-    same false = refl
-
 -- ---- lists of lists
-
-pub flat_step : {X Y : Type 0} (f : X → List Y) (xs : List X) (i : ℕ) (x : X) (old new total : List Y)
-    → i < length xs → x ≡ get_or xs i x → new ≡ old ++ f x → old ++ flat_map f (drop i xs) ≡ total
-    → new ++ flat_map f (drop (i + 1) xs) ≡ total
-flat_step f xs i x old new total within is added before =
-    ap (λ ys. ys ++ flat_map f (drop (i + 1) xs)) added
-    ∙ append_assoc old (f x) (flat_map f (drop (i + 1) xs))
-    ∙ ap (λ ys. old ++ ys) (sym (flat_map-cons f x (drop (i + 1) xs)))
-    ∙ ap (λ rows. old ++ flat_map f rows) (sym cut)
-    ∙ before
-  where
-    cut : drop i xs ≡ x ∷ drop (i + 1) xs
-    cut = drop_more xs i x within ∙ ap (λ y. y ∷ drop (i + 1) xs) (sym is)
 
 -- places of a page, and then those of the pages after it
 pub page_added : (level first count i : ℕ) (all old new : Gathered) (places : List TablePlace) → i < count

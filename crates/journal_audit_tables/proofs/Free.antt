@@ -197,10 +197,6 @@ not_within pool pages pins tables frames different none =
         (λ f free. (and_true (ltb f.0 pool) _ free).0) is in cc
     by_test false is = refl
 
-pub not_different : (a b : Bool) → b ≡ false → false ≡ (a && b)
-not_different true b is = sym is
-not_different false b is = refl
-
 pub all_free : (a b c : Bool) → a ≡ b → c ≡ true → a ≡ (b && c)
 all_free a true true same is = same
 all_free a false true same is = same

@@ -1,10 +1,8 @@
 -- The frames that are given back: those of rows that go, and of rows that may.
-use Rattle.std.proofs.Common.{◌≡◌, ◌<◌, ℕ, ◌+◌, Bool, true, false, ◌&&◌, ◌||◌, not, eqb, List, [], ◌∷◌, length}
-use Rattle.std.proofs.Common.{get_or, drop, refl, sym, ap, ◌∙◌, arith, inl, inr}
+use Rattle.std.proofs.Common.{◌≡◌, ℕ, Bool, true, false, ◌&&◌, ◌||◌, not, eqb, List, [], ◌∷◌}
+use Rattle.std.proofs.Common.{refl, sym, ap, ◌∙◌, arith, inl, inr}
 use Rattle.std.specs.List.{list_all, list_any}
-use Rattle.std.proofs.lemmas.Bool.{eqb-true}
 use Rattle.std.proofs.lemmas.Bool.Decides.{nat_tests}
-use Rattle.std.proofs.lemmas.List.{drop_more}
 use Rattle.iofd_rows.proofs.Each.{IsIn, of_any}
 use Rattle.iofd_words.specs.Tables.{is_among}
 use Rattle.iofd_words.specs.declared.numbers.FrameNo.{FrameNo}
@@ -22,34 +20,10 @@ pub any_alike_in : {X : Type 0} (p q : X → Bool) (xs : List X) → ((x : X) �
 any_alike_in p q [] same = refl
 any_alike_in p q (x ∷ xs) same = rw (same x (inl refl), any_alike_in p q xs (λ y later. same y (inr later))) refl
 
-pub frame_is : (a b : FrameNo) → eqb a.0 b.0 ≡ true → a ≡ b
-frame_is a b same = ap (λ n. let f : FrameNo = record { 0 = n } in f) (eqb-true a.0 b.0 same)
-
 pub asked_added : (old new : List ℕ) (frame : FrameNo) (b : Bool) → b ≡ true → HoldsMore old new frame.0 → (n : ℕ)
     → has_number new n ≡ (has_number old n || (b && eqb frame.0 n))
 asked_added old new frame true is more n = number_added old new frame.0 more n
 asked_added old new frame false is more n = cc
-
--- one row more
-pub leaving_on : (p : TableFrame → Bool) (rows : List TableFrame) (i : ℕ) (d : TableFrame) (old new : List ℕ) (b : Bool)
-    → i < length rows → b ≡ p (get_or rows i d)
-    → ((n : ℕ) → has_number new n ≡ (has_number old n || (b && eqb (get_or rows i d).frame.0 n)))
-    → ((n : ℕ) → (has_number old n || list_any (λ t. p t && eqb t.frame.0 n) (drop i rows))
-    ≡ list_any (λ t. p t && eqb t.frame.0 n) rows)
-    → (n : ℕ) → (has_number new n || list_any (λ t. p t && eqb t.frame.0 n) (drop (i + 1) rows))
-    ≡ list_any (λ t. p t && eqb t.frame.0 n) rows
-leaving_on p rows i d old new b within test more before n =
-    ap (λ x. x || list_any (λ t. p t && eqb t.frame.0 n) (drop (i + 1) rows)) (more n)
-    ∙ ap (λ x. (has_number old n || (x && eqb (get_or rows i d).frame.0 n))
-    || list_any (λ t. p t && eqb t.frame.0 n) (drop (i + 1) rows)) test
-    ∙ tidy (has_number old n) (p (get_or rows i d) && eqb (get_or rows i d).frame.0 n)
-    (list_any (λ t. p t && eqb t.frame.0 n) (drop (i + 1) rows))
-    ∙ ap (λ ts. has_number old n || list_any (λ t. p t && eqb t.frame.0 n) ts) (sym (drop_more rows i d within))
-    ∙ before n
-  where
-    tidy : (a b c : Bool) → ((a || b) || c) ≡ (a || (b || c))
-    tidy true b c = refl
-    tidy false b c = refl
 
 -- by the sets of frames
 pub given_is : (goes may : TableFrame → Bool) (rows : List TableFrame) (given : List FrameNo) (keys left : List ℕ)

@@ -2,7 +2,7 @@
 use Rattle.std.proofs.Common.{◌≡◌, ℕ, Bool, true, false, ◌||◌, cond, not, eqb, List, [], ◌∷◌, ◌++◌, reverse, refl, sym}
 use Rattle.std.proofs.Common.{ap, ◌∙◌, ◌≤◌, append-nil, drop, length, map, take}
 use Rattle.std.proofs.lemmas.Grind.{reverse_onto}
-use Rattle.std.proofs.lemmas.List.{drop_all, length-map, reverse-append, take_all, take_at}
+use Rattle.std.proofs.lemmas.List.{drop_all, length-map, take_all, take_at}
 use Rattle.std.proofs.lemmas.List.Elements.{filter-append}
 use Rattle.std.proofs.lemmas.List.Folds.{list_any-append}
 use Rattle.std.specs.List.{filter, list_any}
@@ -11,7 +11,7 @@ use Rattle.iofd_words.specs.Dirty.{TrackedTable, has_mark, is_tracked_as}
 use Rattle.iofd_words.specs.DirtyWords.{is_page_of}
 use Rattle.iofd_words.specs.declared.numbers.FileNo.{FileNo}
 use Rattle.iofd_words.specs.declared.numbers.ObjId.{ObjId}
-use Rattle.journal_audit_world.specs.Tracked.{with_page, without_pages}
+use Rattle.journal_audit_world.specs.Tracked.{without_pages}
 
 or_turned : (a b : Bool) → (a || (b || false)) ≡ (b || a)
 or_turned true true = refl
@@ -53,13 +53,6 @@ each_changed f xs zs ys len i same count past is =
     ∙ ap (λ (l : List _). map f l) same
 
 -- ---- a row
-
-pub page_marked : (file : FileNo) (hwpt : ObjId) (page : ℕ) (table : TrackedTable) (items : List ℕ)
-    → is_tracked_as file hwpt table ≡ true → table.pages ≡ reverse items
-    → (let new : TrackedTable = record table { pages = reverse (items ++ page ∷ []) } in new)
-    ≡ with_page file hwpt page table
-page_marked file hwpt page table items is pages =
-    rw (is, pages, reverse-append items (page ∷ [])) refl
 
 pub pages_cleared : (file : FileNo) (hwpt : ObjId) (span : Bounds) (table : TrackedTable) (items : List ℕ)
     → is_tracked_as file hwpt table ≡ true → table.pages ≡ reverse items

@@ -1,6 +1,6 @@
 //! Memory objects, which stand by rising number.
 
-ghost use Rattle.std.specs.Prelude.{◌≡◌, ◌==◌, ◌<◌, true, false, length, find, slice_index_or, MatchOption};
+ghost use Rattle.std.specs.Prelude.{◌≡◌, ◌==◌, ◌<◌, true, false, length, MatchOption};
 ghost use Rattle.std.specs.List.{list_any, HoldsAt};
 ghost use Rattle.journal_audit_world.specs.Kept.{numbers_rise};
 
@@ -30,16 +30,5 @@ pub fn place_of(memory: &[MemoryObject], number: u64, near: usize) -> Option<usi
     match memory.binary_search_by_key(&number, |object| object.number) {
         Ok(place) => Some(place),
         Err(_) => None,
-    }
-}
-
-/// The memory object of this number.
-pub fn object_of(memory: &[MemoryObject], number: u64) -> Option<MemoryObject>
-    requires { numbers_rise memory.now ≡ true }
-    ensures { result ≡ find (λ m. m.number == number) memory.now }
-{
-    match place_of(memory, number, 0) {
-        Some(place) => Some(memory[place]),
-        None => None,
     }
 }

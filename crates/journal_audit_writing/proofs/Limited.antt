@@ -5,7 +5,7 @@ use Rattle.std.specs.Prelude.{nat_le}
 use Rattle.std.specs.List.{list_all}
 use Rattle.std.proofs.lemmas.Bool.{leb-true}
 use Rattle.iofd_words.specs.Limits.{first_outside}
-use Rattle.iofd_words.specs.Settings.{DeviceSettings, Settings, is_between, is_device_in_limits, is_reserved_span}
+use Rattle.iofd_words.specs.Settings.{Settings, is_between, is_device_in_limits}
 
 none_then : {X : Type 0} (b : Bool) (e : X) (o : Option X) → cond b (Some e) o ≡ None → (b ≡ false) × (o ≡ None)
 none_then true e o is = absurd cc
@@ -42,11 +42,6 @@ within s is =
       devices = leb-true (length s.devices) 256 of_devices.0;
       each_device = of_devices.1;
     }
-
--- a device has few reserved spans
-pub few_spans : (d : DeviceSettings) → is_device_in_limits d ≡ true → length d.reserved ≤ 16
-few_spans d is = leb-true (length d.reserved) 16
-    (both (nat_le (length d.reserved) 16) (list_all is_reserved_span d.reserved) is).0
 
 -- what holds of each holds of the one at this place
 pub all_at : {X : Type 0} (p : X → Bool) (xs : List X) (i : ℕ) (x : X) → i < length xs → x ≡ get_or xs i x

@@ -25,11 +25,6 @@ use Rattle.pinned_pages.proofs.Runs.{few_others, split_length, split_times}
 
 -- ---- lists of numbers
 
-same_map : (F G : MemoryEntry → MemoryEntry) → ((o : MemoryEntry) → F o ≡ G o) → (objects : List MemoryEntry)
-    → map F objects ≡ map G objects
-same_map F G same [] = refl
-same_map F G same (o ∷ objects) = rw (same o) (ap (λ rest. G o ∷ rest) (same_map F G same objects))
-
 pub map_itself : (F : MemoryEntry → MemoryEntry) → ((o : MemoryEntry) → F o ≡ o) → (objects : List MemoryEntry)
     → map F objects ≡ objects
 map_itself F same [] = refl

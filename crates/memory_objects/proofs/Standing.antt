@@ -1,10 +1,9 @@
 -- Entries over which an area lies, among entries of which some are gone.
 use Rattle.std.proofs.Common.{◌≡◌, ℕ, zero, suc, ◌+◌, ◌≤◌, Bool, true, false, cond, eqb, not, Some, None, List, [], ◌∷◌}
-use Rattle.std.proofs.Common.{◌++◌, ◌&&◌, ◌||◌, ◌<◌, get_or, length, set, take, refl, sym, ap, subst, ◌∙◌, arith, ⊎_elim}
-use Rattle.std.specs.List.{list_all, prefix_len, slice_get, sum_by}
+use Rattle.std.proofs.Common.{◌++◌, ◌<◌, get_or, length, set, take, refl, sym, ap, subst, ◌∙◌, arith, ⊎_elim}
+use Rattle.std.specs.List.{list_all, prefix_len, slice_get}
 use Rattle.std.proofs.lemmas.Bool.{cases_Bool}
 use Rattle.std.proofs.lemmas.Bool.Decides.{nat_tests}
-use Rattle.std.proofs.lemmas.List.Sums.{sum_by-cons}
 use Rattle.std.proofs.lemmas.Option.{slice_get_read}
 use Rattle.memory_objects.specs.Objects.{MemoryEntry, are_rising, object_at, standing}
 use Rattle.memory_objects.proofs.Numbered.{none_after, rising_parts}
@@ -195,32 +194,6 @@ prefix_all p (o ∷ entries) =
     (cases_Bool (p o))
 
 -- ---- loops over all entries
-
-pub all_standing : (test : MemoryEntry → Bool) (entries : List MemoryEntry)
-    → list_all test (standing entries) ≡ list_all (λ o. eqb o.areas 0 || test o) entries
-all_standing test [] = refl
-all_standing test (o ∷ entries) =
-    let rest = all_standing test entries in
-    ⊎_elim (λ (gone : eqb o.areas 0 ≡ true). rw gone rest)
-    (λ (is : eqb o.areas 0 ≡ false). rw is (ap (λ b. test o && b) rest)) (cases_Bool (eqb o.areas 0))
-
-pub sum_standing : (f : MemoryEntry → ℕ) (entries : List MemoryEntry)
-    → sum_by f (standing entries) ≡ sum_by (λ o. cond (eqb o.areas 0) 0 (f o)) entries
-sum_standing f [] = refl
-sum_standing f (o ∷ entries) =
-    let rest = sum_standing f entries in
-    let next = sum_by-cons (λ e. cond (eqb e.areas 0) 0 (f e)) o entries in
-    ⊎_elim
-    (λ (gone : eqb o.areas 0 ≡ true). let here : sum_by (λ e. cond (eqb e.areas 0) 0 (f e)) (o ∷ entries) ≡ 0
-    + sum_by (λ e. cond (eqb e.areas 0) 0 (f e)) entries = next
-    ∙ rw gone refl in rw gone (omega (arith, here, rest)))
-    (λ (is : eqb o.areas 0 ≡ false).
-    let here : sum_by (λ e. cond (eqb e.areas 0) 0 (f e)) (o ∷ entries) ≡ f o
-    + sum_by (λ e. cond (eqb e.areas 0) 0 (f e)) entries = next ∙ rw is refl in
-    let those = sum_by-cons f o (standing entries) in
-    let first : sum_by f (standing (o ∷ entries)) ≡ f o + sum_by f (standing entries) = rw is those in
-    first ∙ ap (λ k. f o + k) rest ∙ sym here)
-    (cases_Bool (eqb o.areas 0))
 
 -- ---- the entry that is read at a place, and the object of a number that was found there
 

@@ -155,9 +155,6 @@ as_span old new inside after table first span to rights before later is same fir
 
 module _ (pool : FramePool) (frames : List TableFrame) (leads : Leads) (tables : List Hwpt) (h : Hwpt) (span : Bounds)
     (stand : AllStand pool frames leads tables) (there : IsIn tables h) where
-  abbrev levels : ℕ
-  levels = levels_of h.table.width
-
   abbrev rows : List TableRow
   rows = rows_of frames h.object
 

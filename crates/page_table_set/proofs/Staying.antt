@@ -1,18 +1,17 @@
 -- What is done to other frames leaves all page tables as they were.
-use Rattle.std.proofs.Common.{◌≡◌, ◌≢◌, ℕ, ◌+◌, ◌<◌, ◌≤◌, Bool, true, false, cond, eqb, Option, List, [], ◌∷◌, map}
+use Rattle.std.proofs.Common.{◌≡◌, ℕ, ◌+◌, ◌<◌, ◌≤◌, Bool, true, false, cond, eqb, Option, List, [], ◌∷◌, map}
 use Rattle.std.proofs.Common.{⊎_elim, refl, ap, sym, ◌∙◌, arith}
 use Rattle.std.specs.List.{filter}
 use Rattle.std.specs.Int.{from_le_bytes, w64}
 use Rattle.std.proofs.lemmas.Bool.{cases_lt}
 use Rattle.std.proofs.lemmas.List.Sums.{sum_by-cons}
-use Rattle.std.proofs.lemmas.List.{get_or-set_other}
 use Rattle.std.specs.Prelude.{◌*◌, slice_index, slice_range}
 use Rattle.iofd_rows.proofs.Each.{IsIn}
 use Rattle.iofd_words.specs.Levels.{levels_of}
 use Rattle.iofd_words.specs.TablePlaces.{is_table_of}
 use Rattle.iofd_words.specs.declared.rows.Object.{Object}
 use Rattle.iofd_words.specs.declared.rows.TableFrame.{TableFrame}
-use Rattle.frame_memory.specs.Pool.{FramePool, bytes_of, with_holds}
+use Rattle.frame_memory.specs.Pool.{FramePool}
 use Rattle.page_table_words.proofs.Releasing.{named_held}
 use Rattle.page_table_words.proofs.Tables.{stands_still}
 use Rattle.page_table_words.specs.SameTables.{SameTables}
@@ -128,29 +127,3 @@ stays_standing old new frames leads tables stand same =
         some in omega (arith, was, is))
         (λ (none : tables_in frames frame ≤ 0). omega (arith, none))
         (cases_lt 0 (tables_in frames frame))
-
--- one frame, in which no table is, differs
-pub one_frame_else : (old new : FramePool) (frames : List TableFrame) (leads : Object → ℕ
-    → Option MappedPage) (tables : List Hwpt) (frame : ℕ)
-    → AllStand old frames leads tables → tables_in frames frame ≡ 0
-    → ((other : ℕ) → frame ≢ other → (bytes_of new other ≡ bytes_of old other)
-    × (slice_index new.holds other ≡ slice_index old.holds other))
-    → AllStand new frames leads tables
-one_frame_else old new frames leads tables frame stand none others =
-    stays_standing old new frames leads tables stand
-    (record {
-      bytes = λ other some. (others other (apart other some)).0;
-      holds = λ other some. (others other (apart other some)).1;
-    })
-  where
-    apart : (other : ℕ) → 0 < tables_in frames other → frame ≢ other
-    apart other some same = let here = ap (tables_in frames) same in absurd (omega (arith, some, none, here))
-
--- other holds stand on it, as by a pin that comes or goes
-pub holds_stay : (pool : FramePool) (frames : List TableFrame) (leads : Object → ℕ
-    → Option MappedPage) (tables : List Hwpt) (frame count : ℕ)
-    → AllStand pool frames leads tables → tables_in frames frame ≡ 0
-    → AllStand (with_holds pool frame count) frames leads tables
-holds_stay pool frames leads tables frame count stand none =
-    one_frame_else pool (with_holds pool frame count) frames leads tables frame stand none
-    (λ other apart. (refl, get_or-set_other pool.holds frame other count 0 (λ same. apart (sym same))))

@@ -74,9 +74,6 @@ module _ (there : TablePlace → Bool) (level : ℕ) where
 
   module _ (next page : ℕ) (rest : List ℕ) (near : next ≤ number_at level page + 1)
       (later : AllByRecursion (λ q. number_at level page ≤ number_at level q) rest) where
-    number : ℕ
-    number = number_at level page
-
     -- it lies before the next one already
     earlier : number_at level page < next → lacked_at (or_before there level next) (page ∷ rest) level ≡ lacked_at
         (or_before there level (number_at level page + 1)) rest level

@@ -21,7 +21,7 @@ use Rattle.page_table_words.proofs.Tables.{stands_alike}
 use Rattle.page_table_spans.specs.Spans.{ClearsSpan, HasFrames, MapsSpan, frames_for, held_once, lacked, rows_in}
 use Rattle.page_table_spans.specs.Spans.{with_lacked}
 use Rattle.page_table_spans.proofs.LeastFrames.{held_after, length_least}
-use Rattle.page_table_spans.proofs.SpanPages.{clears_alike, clears_more, clears_none, maps_alike, maps_more, maps_none}
+use Rattle.page_table_spans.proofs.SpanPages.{clears_alike, clears_more, maps_alike, maps_more, maps_none}
 use Rattle.page_table_spans.proofs.SpanTables.{frames_of_all, lacked_fewer, lacked_then, length_one, range_parts}
 use Rattle.page_table_spans.proofs.SpanTables.{rows_of_all, rows_of_one}
 
@@ -77,12 +77,6 @@ module _ (old mid : FramePool) (table : TableRoot) (rows : List TableRow) (pages
     (frames : List FrameNo) (rights : Rights) (before between : List FrameNo)
     (stands : TableStands old table rows pages)
     (is : IsMapped old mid table rows pages first frames rights before between) where
-  levels : ℕ
-  levels = levels_of table.width
-
-  so_far : List ℕ
-  so_far = range_with_len first (length frames)
-
   abbrev pub rows_now : List TableRow
   rows_now = with_lacked rows (levels_of table.width) (range_with_len first (length frames)) old.holds
 
@@ -270,14 +264,6 @@ pub record IsCleared (old new : FramePool) (table : TableRoot) (rows : List Tabl
   pub cleared : List MappedPage
   pub clears : ClearsSpan pages cleared first count
   pub becomes : Becomes old new table rows cleared
-
-pub none_cleared : (pool : FramePool) (table : TableRoot) (rows : List TableRow) (pages : List MappedPage)
-    (first count : ℕ) → count ≡ 0 → TableStands pool table rows pages → IsCleared pool pool table rows pages first count
-none_cleared pool table rows pages first count none stands = record {
-  cleared = pages;
-  clears = clears_none pages first count none;
-  becomes = record { stands = stands; others = others_stay rows pool };
-}
 
 pub cleared_more : (old mid new : FramePool) (table : TableRoot) (rows : List TableRow) (pages : List MappedPage)
     (first count page more : ℕ) (is : IsCleared old mid table rows pages first count) → page ≡ first + count

@@ -91,12 +91,6 @@ before_none there level pages =
 -- ---- one level of one span
 
 module _ (rows : List TableRow) (levels level : ℕ) (span : Bounds) where
-  low : ℕ
-  low = number_at level (page_of span.first)
-
-  high : ℕ
-  high = number_at level (page_of span.last) + 1
-
   absent_is : (number : ℕ) → is_new (has_row rows) level number ≡ is_absent rows level number
   absent_is number =
       ap (λ (n : ℕ). not (has_row rows (numbered level n))) (sym (number-page level number))

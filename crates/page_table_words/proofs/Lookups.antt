@@ -97,9 +97,6 @@ row_for level page frame = record { level = level; first = first_address level p
 
 -- one more row
 module _ (rows : List TableRow) (level page : ℕ) (frame : FrameNo) where
-  more : List TableRow
-  more = rows ++ row_for level page frame ∷ []
-
   pub one_is : (other at : ℕ) → table_at (row_for level page frame ∷ []) other at ≡ cond (eqb level other
       && eqb (first_address level page) (first_address other at)) (Some frame) None
   unfolding table_at

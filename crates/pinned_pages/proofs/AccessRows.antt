@@ -44,9 +44,6 @@ same_rows es fs same =
     same_entries nat_cmp nat_cmp_total nat_cmp-IsAntisymmetric (rising_rows fs) (rising_rows es) (sorted fs) (sorted es)
     (λ q. found_as q fs ∙ sym (as_find q fs) ∙ same q ∙ as_find q es ∙ sym (found_as q es))
 
-pub flip : (a b : ℕ) → eqb a b ≡ eqb b a
-flip a b = grind (arith, nat_tests)
-
 -- ---- how many there are
 
 -- a key that differs from all isn't found

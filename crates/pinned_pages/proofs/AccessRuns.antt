@@ -114,20 +114,10 @@ within_in first k n j next low = grind (arith, nat_tests)
 
 -- ---- pinned
 
-pub pinned_none : (first : ℕ) (rows : List UserPage) (pages : ObjectPages) → IsAccessPinned first 0 rows pages pages
-pinned_none first rows pages = record {
-  same = refl;
-  pins = λ i. rw (none_in first i) (omega arith);
-  frames = λ i. rw (none_in first i) refl;
-}
-
 module _ (first k j : ℕ) (rows : List UserPage) (old mid : ObjectPages) (next : first + k ≡ j)
     (before : IsAccessPinned first k rows old mid) where
   pub now_same : (i : ℕ) → frame_now mid rows i ≡ frame_now old rows i
   now_same i = ap (λ p. frame_now p rows i) before.same
-
-  pub count_same : mid.count ≡ old.count
-  count_same = ap (λ (p : ObjectPages). p.count) before.same
 
   -- the page behind is as it was
   pub pins_behind : access_pins mid j ≡ access_pins old j
@@ -350,9 +340,6 @@ module _ (first k j : ℕ) (old mid : ObjectPages) (next : first + k ≡ j) (bef
     last_left =
         ap (λ (p : ObjectPages). eqb p.table_pins 0 && eqb (access_pins mid j) 1) before.same
         ∙ ap (λ n. eqb old.table_pins 0 && eqb n 1) pins_left
-
-    pub left_count : mid.count ≡ old.count
-    left_count = ap (λ (p : ObjectPages). p.count) before.same
 
     module _ (some : 1 ≤ access_pins old j) (low : j < old.count) where
       frame_left : frame_of mid j ≡ frame_of old j

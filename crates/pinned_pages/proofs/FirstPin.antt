@@ -131,16 +131,6 @@ module _ (pages : ObjectPages) (kept : AreKept pages) (some : 0 < pages.table_pi
   abbrev last : ObjectPages
   last = record pages { table_pins = 0; frames = [] }
 
-  pub last_kept : AreKept last
-  last_kept = record {
-    start = kept.start;
-    end = kept.end;
-    pinned = λ pins. absurd (omega (arith, pins));
-    unpinned = λ zero. refl;
-    counted = kept.counted;
-    agree = λ pins. absurd (omega (arith, pins));
-  }
-
   held_left : held_frames last ≡ filter_map (access_frame pages) (range_with_len 0 pages.count)
   held_left = same_mapped (frame_of last) (access_frame pages) 0 pages.count
       (λ i low high. or_none (access_frame pages i))
@@ -187,15 +177,6 @@ module _ (pages : ObjectPages) (rows : List UserPage) (accounts : List Account) 
   run_granted none =
       none_refused true (run_is_present pages rows first count)
       (has_room accounts pages.user.0 (run_count pages first count)) none refl
-
-  pub run_absent : run_is_present pages rows first count ≡ false
-      → access_refusal pages rows accounts first count ≡ Some cause.Absent
-  run_absent absent = rw absent refl
-
-  pub run_full : run_is_present pages rows first count ≡ true
-      → has_room accounts pages.user.0 (run_count pages first count) ≡ false
-      → access_refusal pages rows accounts first count ≡ Some cause.Account
-  run_full there full = rw (there, full) refl
 
   pub run_fits : run_is_present pages rows first count ≡ true
       → has_room accounts pages.user.0 (run_count pages first count) ≡ true

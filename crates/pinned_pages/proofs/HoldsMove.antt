@@ -1,5 +1,5 @@
 -- A pool's holds, one frame at a time.
-use Rattle.std.proofs.Common.{Bool, ◌≡◌, ◌≢◌, Option, Some, ℕ, zero, suc, ◌+◌, ◌-◌, ◌^◌, ◌<◌, ◌≤◌, true, false, cond}
+use Rattle.std.proofs.Common.{◌≡◌, ◌≢◌, Option, Some, ℕ, zero, suc, ◌+◌, ◌-◌, ◌^◌, ◌<◌, ◌≤◌, true, false, cond}
 use Rattle.std.proofs.Common.{eqb, ltb}
 use Rattle.std.proofs.Common.{List, [], ◌∷◌, ◌++◌, length, get_or, refl, sym, ◌∙◌, ap, arith, ◌⊎◌, ⊎_elim}
 use Rattle.std.specs.Prelude.{is_none}
@@ -8,7 +8,7 @@ use Rattle.std.proofs.lemmas.Bool.{cases_eq}
 use Rattle.std.proofs.lemmas.Bool.Decides.{nat_tests}
 use Rattle.std.proofs.lemmas.List.FromFn.{length-range_with_len}
 use Rattle.std.proofs.lemmas.List.{get_or-set_same, get_or-set_other, get_or_past, length-set}
-use Rattle.std.proofs.lemmas.List.Sums.{count_by-le-length, sum_by-append, sum_by-cons, sum_by_push}
+use Rattle.std.proofs.lemmas.List.Sums.{count_by-le-length, sum_by-append, sum_by_push}
 use Rattle.iofd_words.specs.declared.numbers.FrameNo.{FrameNo}
 use Rattle.frame_memory.specs.Pool.{FramePool, may_hold, with_holds}
 use Rattle.pinned_pages.proofs.Bools.{and_true}
@@ -32,23 +32,6 @@ times_other frame frames f differ =
     let unlike : eqb f.0 frame ≡ false = grind (arith, nat_tests) in
     let more = times_more frame frames f in
     omega (arith, more, rw unlike at more)
-
--- the first of a list is in it, and what is in the rest is
-pub times_itself_in : (f : FrameNo) (frames : List FrameNo) → (1 ≤ times f.0 (f ∷ frames))
-    × ((g : FrameNo) → 1 ≤ times g.0 frames → 1 ≤ times g.0 (f ∷ frames))
-times_itself_in f frames =
-    let same : eqb f.0 f.0 ≡ true = grind (arith, nat_tests) in (
-      one_of (eqb f.0 f.0) (times f.0 (f ∷ frames)) same (one_in f.0),
-      λ g some. let first = sum_by-cons (λ (h : FrameNo). cond (eqb h.0 g.0) 1 0) f frames in
-          omega (arith, first, some),
-    )
-  where
-    one_of : (b : Bool) (k : ℕ) → b ≡ true → cond b 1 0 ≤ k → 1 ≤ k
-    one_of true k is le = le
-    one_of false k is le = cc
-
-    one_in : (frame : ℕ) → cond (eqb f.0 frame) 1 0 ≤ times frame (f ∷ frames)
-    one_in frame = let first = sum_by-cons (λ (h : FrameNo). cond (eqb h.0 frame) 1 0) f frames in omega (arith, first)
 
 pub no_more : (pool : FramePool) → HasMoreHolds pool pool []
 no_more pool = record { count = refl; holds = λ frame. omega arith; bytes = refl }

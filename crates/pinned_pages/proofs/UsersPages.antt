@@ -1,5 +1,5 @@
 -- A user's pages: their frames are the pool's, and there are no more of them than pages.
-use Rattle.std.proofs.Common.{◌≡◌, ℕ, suc, ◌+◌, ◌<◌, ◌≤◌, Bool, true, false, ◌&&◌, Option, Some, None, List, []}
+use Rattle.std.proofs.Common.{◌≡◌, ℕ, suc, ◌+◌, ◌<◌, Bool, true, false, ◌&&◌, Option, Some, None, List, []}
 use Rattle.std.proofs.Common.{◌∷◌, ◌∙◌, ap, arith, cond, eqb, ltb, length, refl}
 use Rattle.std.specs.Prelude.{is_some}
 use Rattle.std.specs.List.{cons_option, filter_map, find, list_all, range_with_len}
@@ -50,21 +50,6 @@ made {X = X} h (i ∷ indexes) all = by_some (h i) all (made h indexes)
         → length (cons_option o (filter_map h indexes)) ≡ suc (length indexes)
     by_some (Some x) is rest = ap suc (rest is)
     by_some None is rest = cc
-
-few : {X : Type 0} (h : ℕ → Option X) (indexes : List ℕ) → length (filter_map h indexes) ≤ length indexes
-few h [] = omega arith
-few {X = X} h (i ∷ indexes) = by_some (h i) (few h indexes)
-  where
-    by_some : (o : Option X) → length (filter_map h indexes) ≤ length indexes
-        → length (cons_option o (filter_map h indexes)) ≤ suc (length indexes)
-    by_some (Some x) rest = omega (arith, rest)
-    by_some None rest = omega (arith, rest)
-
--- there are no more frames than pages
-pub few_frames : (rows : List UserPage) (user : UserNo) (page count : ℕ)
-    → length (frames_now rows user page count) ≤ count
-few_frames rows user page count =
-    rw (length-range_with_len 0 count) at (few (λ i. frame_at rows user (page + i)) (range_with_len 0 count))
 
 -- where all are there, each has its frame
 pub all_framed : (rows : List UserPage) (user : UserNo) (page count : ℕ)

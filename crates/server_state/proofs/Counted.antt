@@ -366,19 +366,6 @@ module _ {A : Type 0} where
       by_tests false true is rest = rw (is, areas_at) refl
       by_tests false false is rest = rw (is, areas_at) rest
 
-  pub unused-counted : (rows : List (Row (Held A))) (file : FileNo) (id : ObjId) (n : ℕ) (f : FileNo) (i : ObjId)
-      → find (is_at f i) rows ≡ None → find (is_at f i) (changed_at file id (with_users n) rows) ≡ None
-  unused-counted [] file id n f i none = refl
-  unused-counted (row ∷ rows) file id n f i none =
-      by_tests (is_at file id row) (is_at f i row) refl none (unused-counted rows file id n f i)
-    where
-      by_tests : (b c : Bool) → is_at f i row ≡ c → cond c (Some row) (find (is_at f i) rows) ≡ None
-          → (find (is_at f i) rows ≡ None → find (is_at f i) (changed_at file id (with_users n) rows) ≡ None)
-          → find (is_at f i) (cond b (with_users n row) row ∷ changed_at file id (with_users n) rows) ≡ None
-      by_tests b true is none later = cc
-      by_tests true false is none later = rw is (later none)
-      by_tests false false is none later = rw is (later none)
-
   pub users_here : (rows : List (Row (Held A))) (file : FileNo) (id : ObjId) (n : ℕ) (row : Row (Held A))
       → find (is_at file id) rows ≡ Some row → users_at (changed_at file id (with_users n) rows) file id ≡ n
   users_here [] file id n found is = cc

@@ -6,7 +6,7 @@ use Rattle.std.proofs.lemmas.Bool.{eqb-true}
 use Rattle.std.proofs.lemmas.Bool.Decides.{nat_tests}
 use Rattle.dirty_bitmap.specs.Tracking.{Tables, is_dirty, is_file, is_table, is_tracked}
 use Rattle.iofd_words.specs.Bounds.{Bounds}
-use Rattle.iofd_words.specs.Dirty.{TrackedTable, has_mark, is_marked, is_tracked_as, tracks, with_mark, with_tracking}
+use Rattle.iofd_words.specs.Dirty.{TrackedTable, has_mark, is_tracked_as, tracks, with_mark, with_tracking}
 use Rattle.iofd_words.specs.Dirty.{without_marks, without_tracked}
 use Rattle.iofd_words.specs.DirtyWords.{is_page_of}
 use Rattle.iofd_words.specs.declared.numbers.FileNo.{FileNo}
@@ -18,10 +18,6 @@ use Rattle.server_state.specs.Shows.{DirtyShown}
 and_none : (b : Bool) → (b && false) ≡ false
 and_none true = refl
 and_none false = refl
-
-and_all : (b : Bool) → (b && true) ≡ b
-and_all true = refl
-and_all false = refl
 
 -- a test of what is left, where the rows that pass it stay or go together
 any_left : {X : Type 0} (p q : X → Bool) (b : Bool) (xs : List X) → ((x : X) → p x ≡ true → q x ≡ b)

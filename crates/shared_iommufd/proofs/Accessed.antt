@@ -164,15 +164,6 @@ module _ {A : Type 0} {g : CoreGhosts A} where
       (subst (λ (n : ℕ). Leaves most (page_of address) finds.translation (compared p.turns n p.kept) kept) tells.turns
       leaves)
 
-  -- a port that keeps the same may keep it once its pass has seen more
-  pub keeps_same : (device : DeviceNo) (p q : Standing A g) → MayKeep told device (view_of p.pass).seen p.turns p.kept
-      → StartsWith (view_of q.pass).seen (view_of p.pass).seen → KeepsSame p q
-      → MayKeep told device (view_of q.pass).seen q.turns q.kept
-  keeps_same device p q may later same =
-      subst (λ (c : ℕ × Translations). MayKeep told device (view_of q.pass).seen c.0 c.1)
-      (λ i. (sym same.turns i, sym same.kept i))
-      (keeps_later device (view_of p.pass).seen (view_of q.pass).seen p.turns p.kept later may)
-
 -- ---- where a write was at a frame that was found, it passed there
 
 abbrev write_of : (A : Type 0) → DeviceNo → Iova → List ℕ → Event A

@@ -37,10 +37,6 @@ devices_and_passes s none =
       (none_true (is_between 1 1024 s.passes) _ _ devices.1).0,
     )
 
--- it has at most 256 devices
-pub devices_fit : (s : Settings) → config.first_outside s ≡ None → length s.devices ≤ 256
-devices_fit s none = (devices_and_passes s none).0
-
 -- and 1 to 1024 passes
 pub passes_fit : (s : Settings) → config.first_outside s ≡ None → (1 ≤ s.passes) × (s.passes ≤ 1024)
 passes_fit s none = between 1 1024 s.passes (devices_and_passes s none).1

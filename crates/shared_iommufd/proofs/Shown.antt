@@ -36,16 +36,6 @@ use Rattle.guarded_core.specs.declared.kept_core.Entry.{Entry}
 use Rattle.guarded_core.specs.declared.kept_core.Entry.TheVariants as entry
 use Rattle.guarded_core.proofs.Entered.{starts_so, is_history, one_entry, same_settings, told_more}
 
-module _ {A : Type 0} where
-  -- what is answered to the core's word on ranges tells the ranges of its world
-  answers_ranges : {Z : Type 0} (h : History A) (file : FileNo) (request : RangesRequest)
-      (ranges : Result (RangeSet Z) CallError) (answer : IoctlAnswer A) → TellsRanges Z h file request.ioas ranges
-      → AnswersSet Z request ranges answer → AnswersRanges h file request answer
-  answers_ranges h file request (Ok set) answer tells answers =
-      rw (AnswersRanges, ← tells.refused) (set.spans, tells.ranges, answers)
-  answers_ranges h file request (Err (error.Refused refusal)) answer tells answers = rw (AnswersRanges, ← tells.refused) answers
-  answers_ranges h file request (Err (error.Memory no_memory)) answer tells answers = absurd answers
-
 module _ {A : Type 0} {g : CoreGhosts A} where
   -- the pass has seen all that the core h tells, which begins with the opening o
   pub has_seen : (settings : Settings) (o h : History A) (p : CorePass A g) → o.settings ≡ settings → o.records ≡ []
@@ -109,27 +99,6 @@ module _ {A : Type 0} {g : CoreGhosts A} where
         records = h.records;
         seen = has_seen settings o h p opened fresh starts run seen legal home;
         tells = subst (λ (x : History A). TellsJournal x answer) (is_history h settings e) tells;
-      }
-
-  -- and the core h has told ranges so
-  pub ranges_told : {Z : Type 0} (settings : Settings) (o h : History A) (p q : CorePass A g) (file : FileNo)
-      (request : RangesRequest) (ranges : Result (RangeSet Z) CallError) (answer : IoctlAnswer A)
-      → o.settings ≡ settings → o.records ≡ [] → StartsWith (told h) (told o) → IsRun h.settings h.records
-      → (view_of q).seen ≡ told h
-      → Legal maker_of (length (told o)) (told h) (number_of q) (view_of q).seen (view_of q).made
-      → IsBlank (view_of q)
-      → OnlySees (view_of p) (view_of q) → HadLane (view_of p) (view_of q) → TellsRanges Z h file request.ioas ranges
-      → AnswersSet Z request ranges answer → IsTold settings p file request answer q
-  ranges_told settings o h p q file request ranges answer opened fresh starts run seen legal home sees had tells
-      answers =
-      let e : h.settings ≡ settings = same_settings h o starts ∙ opened in
-      record {
-        sees = sees;
-        had = had;
-        records = h.records;
-        seen = has_seen settings o h q opened fresh starts run seen legal home;
-        answers = subst (λ (x : History A). AnswersRanges x file request answer) (is_history h settings e)
-            (answers_ranges h file request ranges answer tells answers);
       }
 
   -- The pass is p as the call begins, q before the act and r after it; the core tells old before the act, and new after

@@ -1,6 +1,6 @@
 -- How many pages of memory objects are pinned, and how many aren't.
-use Rattle.std.proofs.Common.{◌≡◌, ℕ, zero, suc, ◌+◌, ◌<◌, ◌≤◌, Bool, true, false, cond, eqb, Option, Some, None, List}
-use Rattle.std.proofs.Common.{[], ◌∷◌, map, length, refl, sym, ap, ◌∙◌, arith}
+use Rattle.std.proofs.Common.{◌≡◌, ℕ, ◌+◌, Bool, true, false, cond, eqb, Option, Some, None, List}
+use Rattle.std.proofs.Common.{[], ◌∷◌, length, refl, sym, ap, ◌∙◌, arith}
 use Rattle.std.specs.Prelude.{is_some, is_none}
 use Rattle.std.specs.List.{count_by, filter, flat_map, list_all, list_any, range_with_len, slice_get, sum_by}
 use Rattle.std.specs.List.{AllByRecursion}

@@ -8,8 +8,6 @@ use Rattle.std.proofs.lemmas.List.Concat.{flat_map-cons}
 use Rattle.std.proofs.lemmas.List.Folds.{list_any-append}
 use Rattle.std.proofs.lemmas.List.Sums.{sum_by-cons}
 use Rattle.std.proofs.lemmas.Option.{slice_get_past}
-use Rattle.iofd_words.specs.Frames.{frame_at}
-use Rattle.iofd_words.specs.Pages.{page_of}
 use Rattle.iofd_words.specs.Pins.{ObjectPage, pages_of, unpinned_pages}
 use Rattle.iofd_words.specs.declared.numbers.FrameNo.{FrameNo}
 use Rattle.iofd_words.specs.declared.rows.MemoryObject.{MemoryObject}
@@ -197,9 +195,6 @@ any_by_number test entries rising (n ∷ ns) =
 -- ---- the pages that lack are those that aren't pinned
 
 module _ (m : Memory) where
-  lacking : ObjectPage → Bool
-  lacking page = is_none (pinned_frame m page) && is_none (memory.frame_now m page)
-
   its_lacking : (o : MemoryEntry) → object_at m.objects o.number ≡ Some o → is_kept o ≡ true
       → list_any (λ page. is_none (pinned_frame m page) && is_none (memory.frame_now m page))
       (pages_of (row_of o)) ≡ lacks m.pages o

@@ -1,5 +1,5 @@
 -- How many frames there are of an object's pages that are pinned.
-use Rattle.std.proofs.Common.{◌≡◌, ℕ, ◌<◌, true, false, cond, eqb, Option, Some, None, List, [], ◌∷◌, length, refl}
+use Rattle.std.proofs.Common.{◌≡◌, ℕ, ◌<◌, true, false, cond, eqb, Option, Some, None, List, [], length}
 use Rattle.std.proofs.Common.{arith}
 use Rattle.std.specs.List.{find, slice_get}
 use Rattle.std.specs.Option.{IfNone, IfSome}

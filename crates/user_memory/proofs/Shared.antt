@@ -1,5 +1,5 @@
 -- One area more over an object, with a pin or none.
-use Rattle.std.proofs.Common.{◌≡◌, ℕ, ◌+◌, ◌<◌, ◌≤◌, Bool, true, false, ◌&&◌, ◌||◌, ◌^◌, cond, eqb, ltb, leb, Option}
+use Rattle.std.proofs.Common.{◌≡◌, ℕ, ◌+◌, ◌<◌, ◌≤◌, Bool, true, false, ◌||◌, ◌^◌, cond, eqb, ltb, leb, Option}
 use Rattle.std.proofs.Common.{Some, None, List, [], ◌∷◌, refl, sym, ap, ◌∙◌, subst, arith, ⊎_elim}
 use Rattle.std.specs.List.{find, list_all, list_any}
 use Rattle.std.specs.Option.{IfSome}
@@ -36,7 +36,6 @@ use Rattle.user_memory.proofs.Pinned.{pin_pins, pin_steps, step_before}
 use Rattle.user_memory.proofs.Settled.{access_moved, StepOf, mapped_at, memory_of, moved, settle, stays}
 use Rattle.iofd_words.specs.Frames.{frame_at}
 use Rattle.iofd_words.specs.Pages.{page_of}
-use Rattle.std.specs.List.{slice_get}
 
 flipped : (a b : ℕ) → eqb a b ≡ eqb b a
 flipped a b = grind (arith, nat_tests)

@@ -1,17 +1,16 @@
 -- How often access pins cover a page: as long as none comes or goes it stays, whatever areas and objects do.
-use Rattle.std.proofs.Common.{◌≡◌, ℕ, ◌+◌, ◌*◌, ◌/◌, Bool, true, false, cond, ◌&&◌, ◌||◌, not, eqb, ltb, Option, Some}
-use Rattle.std.proofs.Common.{None, List, [], ◌∷◌, ◌++◌, map, refl, ap, sym, ◌∙◌, inl, inr, arith}
-use Rattle.std.specs.List.{count_by, filter, list_any, sum_by}
+use Rattle.std.proofs.Common.{◌≡◌, ℕ, ◌+◌, Bool, true, false, cond, ◌&&◌, ◌||◌, not, eqb, ltb, Option, Some}
+use Rattle.std.proofs.Common.{None, List, [], ◌∷◌, map, refl, ap, sym, ◌∙◌, inl, inr, arith}
+use Rattle.std.specs.List.{count_by, filter}
 use Rattle.std.proofs.lemmas.Bool.Decides.{nat_tests}
-use Rattle.std.proofs.lemmas.List.Sums.{sum_by-cons, sum_by_push}
-use Rattle.iofd_rows.proofs.Bools.{and_true, both_true, clash}
+use Rattle.std.proofs.lemmas.List.Sums.{sum_by-cons}
+use Rattle.iofd_rows.proofs.Bools.{and_true, clash}
 use Rattle.iofd_rows.proofs.Each.{IsIn, of_any}
-use Rattle.iofd_rows.proofs.ListTests.{false_else}
 use Rattle.iofd_runs.proofs.Accessed.{EachHeld, HoldersStay, IsOfAreas, covered_meets, covers_here}
-use Rattle.iofd_words.specs.Areas.{areas_meet, areas_of, is_of, with_area, with_phase}
-use Rattle.iofd_words.specs.Objects.{is_access_to, kind_of}
+use Rattle.iofd_words.specs.Areas.{with_area, with_phase}
+use Rattle.iofd_words.specs.Objects.{is_access_to}
 use Rattle.iofd_words.specs.Pins.{ObjectPage, covers_page, has_pin_in, is_accessed, is_pin_in, span_of_page}
-use Rattle.iofd_words.specs.Span.{holds, lies_in, meets, size_of}
+use Rattle.iofd_words.specs.Span.{lies_in, meets}
 use Rattle.iofd_words.specs.declared.rows.AccessPin.{AccessPin}
 use Rattle.iofd_words.specs.declared.rows.Area.{Area}
 use Rattle.iofd_words.specs.declared.rows.Object.{Object}
@@ -145,12 +144,6 @@ none_counted objects areas (pin ∷ pins) page none =
             → cond (b && c) 1 0 + covered_by objects areas page pin ≡ 0
         by_test true c sum rest = absurd (omega (arith, sum))
         by_test false c sum rest = let none = rest (omega (arith, sum)) in omega (arith, none)
-
--- one pin more
-pub accessed_push : (objects : List Object) (areas : List Area) (pins : List AccessPin) (pin : AccessPin)
-    (page : ObjectPage) → accessed objects areas (pins ++ pin ∷ []) page
-    ≡ accessed objects areas pins page + covered_by objects areas page pin
-accessed_push objects areas pins pin page = sum_by_push (covered_by objects areas page) pins pin
 
 -- ---- pages that no memory object has
 

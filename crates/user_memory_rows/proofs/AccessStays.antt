@@ -1,5 +1,5 @@
 -- The access pins that there were cover each page as often after an event as before.
-use Rattle.std.proofs.Common.{◌≡◌, ℕ, ◌+◌, Bool, true, not, Some, None, sym, ◌∙◌, refl}
+use Rattle.std.proofs.Common.{◌≡◌, ℕ, ◌+◌, true, None, ◌∙◌, refl}
 use Rattle.iofd_rows.proofs.Each.{area_added}
 use Rattle.iofd_rows.proofs.ObjectPages.{listed_fewer, listed_is}
 use Rattle.iofd_rows.specs.Pinned.{ArePinned}
@@ -13,8 +13,6 @@ use Rattle.iofd_words.specs.Pins.{ObjectPage}
 use Rattle.iofd_words.specs.World.{World}
 use Rattle.iofd_words.specs.declared.event.Event.{Event}
 use Rattle.iofd_words.specs.declared.reply.Reply.{Reply}
-use Rattle.iofd_words.specs.declared.rows.Area.{Area}
-use Rattle.iofd_words.specs.declared.rows.MemoryObject.{MemoryObject}
 use Rattle.user_memory_rows.proofs.AccessCounts.{counted_fewer, counted_more, counted_objects, counted_phases}
 use Rattle.user_memory_rows.specs.Shown.{accessed, has_page}
 

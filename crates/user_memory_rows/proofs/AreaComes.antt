@@ -1,21 +1,16 @@
 -- One area more lies over a memory object: pins, frames and users' pages are shown again.
-use Rattle.std.proofs.Common.{◌≡◌, ℕ, ◌+◌, ◌<◌, ◌≤◌, Bool, true, false, cond, ◌&&◌, ◌||◌, eqb, leb, ltb, Option, Some}
-use Rattle.std.proofs.Common.{None, List, [], ◌∷◌}
-use Rattle.std.proofs.Common.{length, refl, ap, sym, ◌∙◌, arith}
-use Rattle.std.specs.List.{count_by, list_all, list_any}
+use Rattle.std.proofs.Common.{◌≡◌, ℕ, ◌+◌, ◌≤◌, Bool, true, false, cond, ◌&&◌, ◌||◌, eqb, leb, ltb, Option, Some}
+use Rattle.std.proofs.Common.{None, List}
+use Rattle.std.proofs.Common.{refl, ap, sym, ◌∙◌, arith}
+use Rattle.std.specs.List.{list_any}
 use Rattle.std.proofs.lemmas.Bool.Decides.{nat_tests}
-use Rattle.std.proofs.lemmas.List.Sums.{count_by-le-length}
 use Rattle.frame_memory.specs.Pool.{FramePool}
-use Rattle.iofd_words.specs.After.{copy_changes, mapped_area, settle}
+use Rattle.iofd_words.specs.After.{settle}
 use Rattle.iofd_words.specs.Areas.{with_area}
-use Rattle.iofd_words.specs.Copies.{placed_as}
 use Rattle.iofd_words.specs.Frames.{frame_at}
 use Rattle.iofd_words.specs.Objects.{has_hwpt}
 use Rattle.iofd_words.specs.Pins.{ObjectPage, pinned_pages, settled}
 use Rattle.iofd_words.specs.World.{World}
-use Rattle.iofd_words.specs.declared.event.CopyRequest.{CopyRequest}
-use Rattle.iofd_words.specs.declared.numbers.FileNo.{FileNo}
-use Rattle.iofd_words.specs.declared.numbers.Iova.{Iova}
 use Rattle.iofd_words.specs.declared.numbers.UserNo.{UserNo}
 use Rattle.iofd_words.specs.declared.rows.Area.{Area}
 use Rattle.iofd_words.specs.declared.rows.MemoryObject.{MemoryObject}
@@ -29,7 +24,6 @@ use Rattle.user_memory_rows.proofs.CountBy.{any_count}
 use Rattle.user_memory_rows.proofs.PinsFollow.{pins_follow, still_some}
 use Rattle.user_memory_rows.specs.Shown.{PinsShown, accessed, has_page, over, translated}
 use Rattle.memory_objects.specs.Invariant.{MemoryInvariant}
-use Rattle.memory_objects.specs.Objects as objects
 use Rattle.memory_objects.specs.Objects.{MemoryEntry, object_at}
 use Rattle.user_memory.proofs.Found.{found_passes, has_index, pinned_has}
 use Rattle.user_memory.specs.Changes.{HasShare, Settles}
@@ -47,9 +41,6 @@ area_counted areas a within =
   where
     own : (n : ℕ) → eqb n n ≡ true
     own n = grind (arith, nat_tests)
-
-pub over_few : (areas : List Area) (n : ℕ) → over areas n ≤ length areas
-over_few areas n = count_by-le-length (λ (a : Area). eqb a.memory n) areas
 
 -- with one area more
 pub over_more : (x : Area) (areas : List Area) (kept after : Memory) → ((n : ℕ) → areas_over kept n ≡ over areas n)
@@ -97,22 +88,6 @@ more_shared count number old new has = record {
   pages = λ page some. ap (list_any (λ (row : MemoryObject). eqb page.memory row.number && ltb page.index row.count))
       has.rows;
 }
-
--- no area lies over an object above all others
-pub none_over : (m : Memory) (n : ℕ) → list_all (λ (row : MemoryObject). ltb row.number n) (rows_of m) ≡ true
-    → areas_over m n ≡ 0
-none_over m n lower = ap areas_in (none m.objects lower)
-  where
-    other : (a b : ℕ) → ltb a b ≡ true → eqb a b ≡ false
-    other a b low = grind (arith, nat_tests)
-
-    none : (entries : List MemoryEntry) → list_all (λ (row : MemoryObject). ltb row.number n) (objects.rows_of entries)
-        ≡ true → object_at entries n ≡ None
-    none [] all = refl
-    none (o ∷ entries) all =
-        let parts = and_true (ltb o.number n) (list_all (λ (row : MemoryObject). ltb row.number n)
-        (objects.rows_of entries)) all in
-        rw (other o.number n parts.0) (none entries parts.1)
 
 -- an object that has a page has an area
 has_area : (entries : List MemoryEntry) (n i : ℕ) → MemoryInvariant entries → has_index (object_at entries n) i ≡ true
@@ -193,9 +168,3 @@ shared_shown at next w x pinned kept after before_pool after_pool is is_next sho
     area_shown at next w (shared_world w x) x pinned kept after before_pool after_pool is is_next shown refl
     refl refl refl pages is_translated (shown.rows ∙ sym has.rows) (more_shared _ _ _ _ has)
     (λ page there. shown.access page there ∙ sym (same page there)) settles
-
--- that of a COPY
-pub copied_world : (w : World) (file : FileNo) (request : CopyRequest) (iova : Iova) (source : Area)
-    → copy_changes w file request iova (Some source) ≡ shared_world w
-    (mapped_area source.memory file (placed_as request) iova)
-copied_world w file request iova source = refl

@@ -1,4 +1,3 @@
-use Rattle.std.proofs.Common.{sym}
 use Rattle.journal_audit_maps.proofs.Unspanned.{none_asked}
 use Rattle.journal_audit_maps.proofs.gathering.gather_asked.Goals as goal
 

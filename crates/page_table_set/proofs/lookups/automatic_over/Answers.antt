@@ -1,4 +1,4 @@
-use Rattle.std.proofs.Common.{◌∙◌, ◌&&◌, eqb, List, ap}
+use Rattle.std.proofs.Common.{◌∙◌, ◌&&◌, eqb, ap}
 use Rattle.std.specs.List.{find}
 use Rattle.iofd_words.specs.Objects.{is_automatic_over}
 use Rattle.page_table_set.specs.PageTables.{Hwpt}

@@ -1,4 +1,4 @@
-use Rattle.std.proofs.Common.{◌&&◌, ◌||◌, eqb, ap, sym, ◌∙◌, min, max}
+use Rattle.std.proofs.Common.{◌&&◌, ◌||◌, eqb, ap, sym, ◌∙◌}
 use Rattle.journal_audit_index.specs.Keys.{has_number}
 use Rattle.journal_audit_index.proofs.Keyed.{more_within, number_added}
 use Rattle.journal_audit_index.proofs.numbers.Numbers.add_if.Goals as goal

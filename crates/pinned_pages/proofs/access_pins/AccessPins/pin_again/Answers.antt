@@ -1,4 +1,4 @@
-use Rattle.std.proofs.Common.{◌≡◌, ◌+◌, ◌<◌, ◌∙◌, ℕ, cond, eqb, Option, None, Some, refl, sym, ap, subst, arith}
+use Rattle.std.proofs.Common.{◌+◌, ◌<◌, ◌∙◌, ℕ, cond, eqb, Option, Some, refl, sym, ap, subst, arith}
 use Rattle.std.specs.Map.{lookup}
 use Rattle.std.specs.Prelude.{IsSome}
 use Rattle.pinned_pages.specs.Access.{AccessMap, pins_in, rising_rows, row_at}
