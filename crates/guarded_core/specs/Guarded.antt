@@ -15,8 +15,8 @@ use Rattle.guarded_core.specs.declared.try_error.TryError.{TryError}
 use Rattle.guarded_core.specs.declared.try_error.TryError.TheVariants as tried
 
 module _ {K A S E : Type 0} {g : kept.Ghosts K A S E} where
-  -- The pass was shown this value, and has seen just its history, which begins as the lock's did and is legal for it. It
-  -- holds no lane now.
+  -- The pass was shown this value, and has seen just its history, which begins as the lock's did and is legal for it.
+  -- It holds no lane now.
   pub record Shown (lock : LaneLock K A S E) (p : Pass K A S E g) (value : K) : Type 0 where
     pub seen : (view_of p).seen ≡ g.history value
     pub opened : StartsWith (g.history value) (opening_of g.history lock)

@@ -142,8 +142,8 @@ abbrev pub RefusesLook : {E : Type 0} → ℕ → View E → View E → TryError
 RefusesLook lane v w (tried.NotNow refused) = RefusesRead v w lane refused
 RefusesLook lane v w (tried.Call no_memory) = OnlySees v w × MetNone v w × (HadNone v w ⊎ HadLane v w)
 
--- An event isn't carried out, where so many lanes are: it is refused as a commit is; or memory was wanting for its answer,
--- before a lane was asked for.
+-- An event isn't carried out, where so many lanes are: it is refused as a commit is; or memory was wanting for its
+-- answer, before a lane was asked for.
 abbrev pub RefusesEvent : {E : Type 0} → ℕ → View E → View E → TryError NoMemory → Type 0
 RefusesEvent lanes v w (tried.NotNow refused) = RefusesCommit lanes v w (tried.NotNow refused)
 RefusesEvent lanes v w (tried.Call no_memory) =
@@ -156,23 +156,23 @@ RefusesAsked lanes lane (asks.Event e) v w error = RefusesEvent lanes v w error
 RefusesAsked lanes lane (asks.Ranges request) v w error = RefusesLook lane v w error
 RefusesAsked lanes lane (asks.Dirty request) v w error = RefusesLook lane v w error
 
--- A call of ioctl of the file isn't carried out: no cause refuses its bytes, they spell a command, and what this asks for
--- isn't carried out.
+-- A call of ioctl of the file isn't carried out: no cause refuses its bytes, they spell a command, and what this asks
+-- for isn't carried out.
 abbrev pub RefusesIoctl : (A : Type 0) → {E : Type 0} → FileNo → ℕ → List ℕ → ℕ → ℕ → View E → View E
     → TryError NoMemory → Type 0
 RefusesIoctl A file number bytes lanes lane v w error =
     (codec.refusal number bytes ≡ None)
     × ((command : Command A) × Spells number bytes command × RefusesAsked lanes lane (asked file command) v w error)
 
--- What a command asks for isn't carried out by a call that waits, for want of memory: no share was had for an event, and
--- for a question at most one, and not all lanes.
+-- What a command asks for isn't carried out by a call that waits, for want of memory: no share was had for an event,
+-- and for a question at most one, and not all lanes.
 abbrev pub FailsAsked : {A E : Type 0} → Asked A → View E → View E → Type 0
 FailsAsked (asks.Event e) v w = HadNoLane v w
 FailsAsked (asks.Ranges request) v w = HadNone v w ⊎ HadLane v w
 FailsAsked (asks.Dirty request) v w = HadNone v w ⊎ HadLane v w
 
--- A call of ioctl of the file that waits isn't carried out: its bytes spell a command, and for what this asks for memory
--- was wanting.
+-- A call of ioctl of the file that waits isn't carried out: its bytes spell a command, and for what this asks for
+-- memory was wanting.
 abbrev pub FailsIoctl : (A : Type 0) → {E : Type 0} → FileNo → ℕ → List ℕ → View E → View E → Type 0
 FailsIoctl A file number bytes v w =
     (command : Command A) × Spells number bytes command × FailsAsked (asked file command) v w

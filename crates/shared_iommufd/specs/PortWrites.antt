@@ -64,9 +64,9 @@ module _ {A : Type 0} {g : CoreGhosts A} where
     pub taken : bytes_of pieces ≡ take done bytes
     pub ends : last ≡ last_place None pieces
 
-  -- Why a piece isn't written: the reply to its record says so; or it made none, for want of memory while no lane was met
-  -- held and all were had once, or since the lanes couldn't be had, of which there are so many; then the port keeps what it
-  -- kept.
+  -- Why a piece isn't written: the reply to its record says so; or it made none, for want of memory while no lane was
+  -- met held and all were had once, or since the lanes couldn't be had, of which there are so many; then the port
+  -- keeps what it kept.
   abbrev pub DeniesWrite : Settings → ℕ → DeviceNo → ℕ → ℕ → List ℕ → Standing A g → Option ℕ → TryError PortCause
       → Standing A g → Option ℕ → Type 0
   DeniesWrite settings lanes device most address bytes p before (tried.Call (cause.Refused refusal)) q last =
