@@ -291,9 +291,9 @@ static inline int32_t defnulk_test(const struct defnulk_handle *handle, const vo
 /* ---- Opening and closing */
 
 /* Opens a server for a handle that is closed. The handle is then its first caller's: it has one of the server's
-   passes, all others to give, and the right to each device's port. -EINVAL: a number is outside its limits, or a
-   reserved span is of no device or not whole pages. -EBUSY: the handle is open. -ENOMEM. With each the handle stays as
-   it was. */
+   passes, all others to give, and the right to each device's port. -EBUSY: the handle is open, which is asked before
+   all else that a server is asked for. -EINVAL: a number is outside its limits, or a reserved span is of no device or
+   not whole pages. -ENOMEM. With each the handle stays as it was. */
 static inline int32_t defnulk_open(const struct defnulk_config *config, struct defnulk_handle *handle) {
     static const struct defnulk_device none = { 0, 39, 0 };
     static const struct defnulk_reserved no_span = { 0, 4095, 1 };
@@ -317,8 +317,9 @@ static inline int32_t defnulk_open(const struct defnulk_config *config, struct d
 }
 
 /* Opens another handle, which is closed, for another caller of the same server, by a pass that this caller has to
-   give: that is the one by whose handle the server was opened. -EBADF: this is no caller's. -EBUSY: the other is
-   open. -ENFILE: it has no pass to give. -ENOMEM. With each both handles stay as they were. */
+   give: that is the one by whose handle the server was opened. -EBUSY: the other is open. -EBADF: this is no caller's.
+   -ENFILE: it has no pass to give. -ENOMEM: it has one, and there is no memory. They are asked in this order, and with
+   each both handles stay as they were. */
 static inline int32_t defnulk_share(struct defnulk_handle *handle, struct defnulk_handle *other) {
     if (handle == NULL || other == NULL)
         return -EFAULT;
@@ -328,9 +329,9 @@ static inline int32_t defnulk_share(struct defnulk_handle *handle, struct defnul
 }
 
 /* Opens another handle, which is closed, for the port of a device: of the last device that has none, so the first
-   such call is of the last device. Its number is written to `device`, and stays as it was with an error. -EBADF:
-   this is no caller's. -EBUSY: the other is open. -ENFILE: no device is left, or no pass. -ENOMEM. With each both
-   handles stay as they were. */
+   such call is of the last device. Its number is written to `device`, and stays as it was with an error. -EBUSY: the
+   other is open. -EBADF: this is no caller's. -ENFILE: no device is left, or no pass. -ENOMEM: there are both, and no
+   memory. They are asked in this order, and with each both handles stay as they were. */
 static inline int32_t defnulk_port(struct defnulk_handle *handle, struct defnulk_handle *other, size_t *device) {
     if (handle == NULL || other == NULL || device == NULL)
         return -EFAULT;

@@ -194,15 +194,17 @@ pub record IsTranslated (address : ℕ) (right : AccessKind) (before : Option Cl
   pub says_so : status ≡ says.translate_status told
   pub put : new ≡ translation_told old told
 
--- A server was opened; or what was asked for is outside the limits, or there was no memory to ask, though each device's
--- width is one that there is, and each reserved row a span of a device; and the handle is as it was.
+-- A server was opened, or why not; or the handle is open, and nothing else is asked; or what was asked for is outside the
+-- limits, or there was no memory to ask, though each device's width is one that there is, and each reserved row a span of
+-- a device. But for the first the handle is as it was.
 abbrev pub IsOpened : Bool → Settings → ℕ → ℕ → Option Client → ℤ → Option Client → Type 0
 IsOpened are_rows settings lanes cache before status after =
     ((told : Result (Unit {0}) OpenError) × Opens before settings lanes cache told after
     × (status ≡ says.open_status told) × (are_rows ≡ true) × (first_outside settings ≡ None))
+    ⊎ ((status ≡ says.open_already) × (before ≡ None → ⊥) × (after ≡ before))
     ⊎ ((status ≡ says.outside) × ((are_rows ≡ false) ⊎ ((e : ConfigError) × (first_outside settings ≡ Some e)))
-    × (after ≡ before))
-    ⊎ ((status ≡ says.no_memory) × (are_rows ≡ true) × (after ≡ before))
+    × (before ≡ None) × (after ≡ before))
+    ⊎ ((status ≡ says.no_memory) × (are_rows ≡ true) × (before ≡ None) × (after ≡ before))
 
 -- another caller's handle was opened
 pub record IsShared (before other : Option Client) (status : ℤ) (after now : Option Client) : Type 0 where

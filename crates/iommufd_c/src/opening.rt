@@ -7,7 +7,7 @@ ghost use Rattle.iommufd_c.specs.Statuses as spec;
 
 use crate::configuring::{DeviceRow, config_of};
 use crate::reserving::ReservedRow;
-use crate::status::{DONE, EBADF, EINVAL, ENOMEM, give_status, open_status};
+use crate::status::{DONE, EBADF, EBUSY, EINVAL, ENOMEM, give_status, open_status};
 use iofd_words::ConfigError;
 use server_handle::Handle;
 use std::alloc::Global;
@@ -32,6 +32,10 @@ pub extern "C" fn defnulk_raw_open(
         (settings_of_rows pool users.now files.now devices.now reserved.now passes) lanes cache handle.old.client
         result handle.new.client }
 {
+    // It is asked first, so that who opens a handle twice is never told that there is no memory.
+    if handle.is_open(alloc) {
+        return EBUSY;
+    }
     match config_of(alloc, pool, users, files, devices, reserved, passes) {
         Ok(config) => open_status(&handle.open(alloc, &config, lanes, cache)),
         Err(ConfigError::Memory) => ENOMEM,

@@ -1,5 +1,5 @@
 -- Callers and devices' ports: which are the same, and what one gives.
-use Rattle.std.specs.Prelude.{◌≡◌, ◌⊎◌, ℕ, ◌+◌, [], ◌∷◌, ◌++◌, length, None, Result, Ok, Err}
+use Rattle.std.specs.Prelude.{◌≡◌, ℕ, ◌+◌, [], ◌∷◌, ◌++◌, length, None}
 use Rattle.std.specs.Arc.{arc_value}
 use Rattle.std.specs.declared.alloc.Global.{Global}
 use Rattle.iofd_words.specs.Settings.{Settings}
@@ -61,17 +61,9 @@ pub record HasGiven (c d : Caller) (p : Device) : Type 0 where
   pub most : most_of p.port ≡ key.cache.pages.cap
   pub empty : KeepsNothing p.port
 
--- The caller has what it had: there was no memory, or it had nothing to give.
+-- The caller has what it had: there was no memory for what it had to give, or it had nothing to give.
 abbrev pub GivesNone : Caller → Caller → GiveError → Type 0 → Type 0
-GivesNone c d error.Memory HadNone = d ≡ c
+GivesNone c d error.Memory HadNone = (d ≡ c) × (HadNone → ⊥)
 GivesNone c d error.NoneLeft HadNone = (d ≡ c) × HadNone
 GivesNone c d error.NoCaller HadNone = ⊥
 GivesNone c d error.Open HadNone = ⊥
-
-abbrev pub GivesShare : Caller → Caller → Result Caller GiveError → Type 0
-GivesShare c d (Ok other) = HasShared c d other
-GivesShare c d (Err error) = GivesNone c d error (c.spare.items ≡ [])
-
-abbrev pub GivesPort : Caller → Caller → Result Device GiveError → Type 0
-GivesPort c d (Ok p) = HasGiven c d p
-GivesPort c d (Err error) = GivesNone c d error ((c.spare.items ≡ []) ⊎ (c.keys.items ≡ []))

@@ -1,8 +1,9 @@
 -- What is done by a handle, which stands for a client, or is closed.
-use Rattle.std.specs.Prelude.{◌≡◌, ◌⊎◌, ℕ, [], Option, Some, None, Result, Ok, Err}
+use Rattle.std.specs.Prelude.{◌≡◌, ◌⊎◌, ℕ, [], Option, Some, None, Result, Ok, Err, Box}
+use Rattle.std.specs.declared.alloc.Global.{Global}
 use Rattle.iofd_words.specs.Settings.{Settings}
 use Rattle.shared_iommufd.specs.Limits.{IsRefusedFor}
-use Rattle.server_handle.specs.Callers.{HasGiven, HasShared, IsFirst}
+use Rattle.server_handle.specs.Callers.{GivesNone, HasGiven, HasShared, IsFirst}
 use Rattle.server_handle.specs.declared.caller.Caller.{Caller}
 use Rattle.server_handle.specs.declared.client.Client.{Client}
 use Rattle.server_handle.specs.declared.client.Client.TheVariants as client
@@ -25,6 +26,16 @@ HasDevice None P = ⊥
 HasDevice (Some (client.Caller c)) P = ⊥
 HasDevice (Some (client.Device p)) P = P p
 HasDevice (Some client.Vacant) P = ⊥
+
+-- the box has another caller, to whom the last pass went; or nothing was given
+abbrev pub GivesShare : Caller → Caller → Result (Box Client Global) GiveError → Type 0
+GivesShare c d (Ok given) = HasCaller (Some given.value) (HasShared c d)
+GivesShare c d (Err error) = GivesNone c d error (c.spare.items ≡ [])
+
+-- the box has a port, to which the last pass and the last key went; or nothing was given
+abbrev pub GivesPort : Caller → Caller → Result (Box Client Global) GiveError → Type 0
+GivesPort c d (Ok given) = HasDevice (Some given.value) (HasGiven c d)
+GivesPort c d (Err error) = GivesNone c d error ((c.spare.items ≡ []) ⊎ (c.keys.items ≡ []))
 
 -- A call of a caller: its handle stays a caller's. By another handle nothing is called, and it stays as it was.
 abbrev pub OnCaller : {R : Type 0} → Option Client → Option R → Option Client → (Caller → R → Caller → Type 0) → Type 0
@@ -49,12 +60,13 @@ Opens before settings lanes cache (Err opened.Open) after = (before ≡ None →
 Opens before settings lanes cache (Err (opened.Server e)) after =
     (before ≡ None) × IsRefusedFor lanes cache e × (after ≡ before)
 
--- why a caller gives nothing to another handle, which is asked first whether it is closed
+-- why a caller gives nothing to another handle, which is asked first whether it is closed; memory is wanting only where
+-- a caller has something to give
 abbrev pub GivesNot : Option Client → Option Client → (Caller → Type 0) → GiveError → Type 0
 GivesNot before other HadNone given.Open = other ≡ None → ⊥
 GivesNot before other HadNone given.NoCaller = (other ≡ None) × (HasCaller before (λ c. Unit {0}) → ⊥)
 GivesNot before other HadNone given.NoneLeft = (other ≡ None) × HasCaller before HadNone
-GivesNot before other HadNone given.Memory = other ≡ None
+GivesNot before other HadNone given.Memory = (other ≡ None) × HasCaller before (λ c. HadNone c → ⊥)
 
 -- A caller gives a pass to another one, whose handle was closed; or both handles stay as they were.
 abbrev pub Shares : Option Client → Option Client → Result (Unit {0}) GiveError → Option Client → Option Client → Type 0

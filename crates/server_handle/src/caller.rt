@@ -6,13 +6,14 @@ ghost use Rattle.shared_iommufd.specs.Ports.{IsKeyOf};
 ghost use Rattle.shared_iommufd.specs.Servers.{ArePassesOf, IsPassOf};
 ghost use Rattle.server_handle.specs.Given.{AreKeysOf};
 
+use crate::client::{Client, boxed, put};
 use crate::device::{Device, MARGIN};
 use crate::error::GiveError;
 use iofd_words::{Act, Answer, CallError, Config, Event, FileNo, NoMemory, ObjId, Query, Span};
 use shared_iommufd::{
     ConfigError, IoctlAnswer, JournalError, NotNow, Pass, PortKey, Server, Stamp, TryError,
 };
-use std::alloc::{AllocError, Global};
+use std::alloc::Global;
 use std::sync::Arc;
 
 /// A caller of a server: a share of it, and a pass. Its calls are made one at a time, and none waits.
@@ -72,11 +73,12 @@ fn last_key(server: &Arc<Server, Global>, keys: &mut Vec<PortKey>) -> PortKey
 }
 
 impl Caller {
-    ghost use Rattle.std.specs.Prelude.{IfErr, IfOk, false};
+    ghost use Rattle.std.specs.Prelude.{IfErr, IfOk, IfSome, false};
     ghost use Rattle.guarded_core.specs.OfPort.{event_of_port, query_of_port};
     ghost use Rattle.shared_iommufd.specs.Limits.{IsRefusedFor};
-    ghost use Rattle.server_handle.specs.Callers.{GivesPort, GivesShare, IsFirst};
+    ghost use Rattle.server_handle.specs.Callers.{IsFirst};
     ghost use Rattle.server_handle.specs.Calls.{Calls, Looks, Serves, TellsJournal, TellsNotices};
+    ghost use Rattle.server_handle.specs.Handles.{GivesPort, GivesShare};
 
     /// Opens a server with this configuration. Its first caller has the last of its passes, all others to give, and the
     /// keys of all devices. The limits are those of `Server::new`.
@@ -111,45 +113,58 @@ impl Caller {
     }
 
     /// Another caller of the same server, who has the last of the passes that this one has to give, and none to give.
-    pub fn share(&mut self, alloc: Global) -> Result<Caller, GiveError>
+    /// Memory is asked for only where there is a pass, and before the pass goes.
+    pub fn share(&mut self, alloc: Global) -> Result<Box<Client>, GiveError>
         ensures { GivesShare self.old self.new result }
     {
-        let server: Result<Arc<Server, Global>, AllocError> = self.server.clone();
-        let Ok(server) = server else {
-            return Err(GiveError::Memory);
-        };
         if self.spare.is_empty() {
             return Err(GiveError::NoneLeft);
         }
+        let Some((room, server)) = self.room(alloc) else {
+            return Err(GiveError::Memory);
+        };
         let pass = last_pass(&self.server, &mut self.spare);
-        Ok(Caller {
+        let caller = Caller {
             server,
             pass,
             spare: Vec::new(alloc),
             keys: Vec::new(alloc),
-        })
+        };
+        Ok(put(room, Client::Caller(caller)))
     }
 
-    /// The port of the last device whose key this caller has, by the last of the passes that it has to give.
-    pub fn port(&mut self) -> Result<Device, GiveError>
+    /// The port of the last device whose key this caller has, by the last of the passes that it has to give. Memory is
+    /// asked for only where there are both, and before they go.
+    pub fn port(&mut self, alloc: Global) -> Result<Box<Client>, GiveError>
         ensures { GivesPort self.old self.new result }
     {
-        let server: Result<Arc<Server, Global>, AllocError> = self.server.clone();
-        let Ok(server) = server else {
-            return Err(GiveError::Memory);
-        };
         if self.keys.is_empty() || self.spare.is_empty() {
             return Err(GiveError::NoneLeft);
         }
+        let Some((room, server)) = self.room(alloc) else {
+            return Err(GiveError::Memory);
+        };
         let pass = last_pass(&self.server, &mut self.spare);
         let key = last_key(&self.server, &mut self.keys);
         let port = server.port(key, pass);
-        Ok(Device {
+        let device = Device {
             before: MARGIN,
             server,
             port,
             after: MARGIN,
-        })
+        };
+        Ok(put(room, Client::Device(device)))
+    }
+
+    // Room for another client, and its share of the server; none where there is no memory.
+    fn room(&self, alloc: Global) -> Option<(Box<Client>, Arc<Server, Global>)>
+        ensures { IfSome result (λ r. arc_value r.1 ≡ arc_value self.now.server) }
+    {
+        let room = boxed(alloc, Client::Vacant)?;
+        match self.server.clone() {
+            Ok(server) => Some((room, server)),
+            Err(_) => None,
+        }
     }
 
     /// How many devices' keys this caller has: those of the first devices.

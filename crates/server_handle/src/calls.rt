@@ -1,13 +1,13 @@
 //! Calls by handles.
 
-ghost use Rattle.std.specs.Prelude.{◌≡◌, IfErr, IfOk, IfSome, Some};
+ghost use Rattle.std.specs.Prelude.{◌≡◌, IfErr, IfOk, Some};
 ghost use Rattle.shared_iommufd.specs.Limits.{IsRefusedFor};
 ghost use Rattle.server_handle.specs.Callers.{IsFirst};
 ghost use Rattle.server_handle.specs.Handles.{HasCaller};
 
 use crate::caller::Caller;
-use crate::client::Client;
-use crate::device::{Access, Device};
+use crate::client::{Client, boxed};
+use crate::device::Access;
 use crate::error::{GiveError, OpenError};
 use crate::handle::Handle;
 use crate::turn::Turn;
@@ -17,20 +17,6 @@ use iofd_words::{
 };
 use shared_iommufd::{ConfigError, IoctlAnswer, JournalError, NotNow, Stamp, TryError};
 use std::alloc::Global;
-
-fn boxed(alloc: Global, client: Client) -> Option<Box<Client>>
-    ensures { IfSome result (λ it. it.value ≡ client) }
-{
-    match Box::new(alloc, client) {
-        Ok(client) => Some(client),
-        Err(_) => None,
-    }
-}
-
-// Room for a client that is to come.
-fn room(alloc: Global) -> Option<Box<Client>> {
-    boxed(alloc, Client::Vacant)
-}
 
 // The client of a new server's first caller. See `Caller::open`.
 fn opened(
@@ -51,21 +37,12 @@ fn opened(
     }
 }
 
-// Opens a handle with a client, which lies in the room then.
-fn put(handle: &mut Handle, mut room: Box<Client>, client: Client)
-    ensures { handle.new.client ≡ Some client }
-{
-    *room = client;
-    *handle = Handle::of(room);
-}
-
 impl Handle {
     ghost use Rattle.std.specs.Prelude.{IfNone, None, false, is_some, length};
     ghost use Rattle.guarded_core.specs.OfPort.{event_of_port, query_of_port};
-    ghost use Rattle.server_handle.specs.Callers.{GivesPort, GivesShare};
     ghost use Rattle.server_handle.specs.Calls.{Calls, Looks, ReadsBytes, Serves, TakesTurn, TellsNotices};
     ghost use Rattle.server_handle.specs.Calls.{TellsJournal, TranslatesPage, WritesBytes};
-    ghost use Rattle.server_handle.specs.Handles.{GivesDevice, OnCaller, OnDevice, Opens, Shares};
+    ghost use Rattle.server_handle.specs.Handles.{GivesDevice, GivesPort, GivesShare, OnCaller, OnDevice, Opens, Shares};
 
     /// Opens a server with this configuration, for a handle that is closed. See `Caller::open`.
     pub fn open(
@@ -96,25 +73,9 @@ impl Handle {
         if other.is_open(alloc) {
             return Err(GiveError::Open);
         }
-        match room(alloc) {
-            Some(room) => self.share_into(alloc, room, other),
-            None => Err(GiveError::Memory),
-        }
-    }
-
-    // Opens another handle for another caller, with room for what that handle is to stand for.
-    fn share_into(
-        &mut self,
-        alloc: Global,
-        room: Box<Client>,
-        other: &mut Handle,
-    ) -> Result<(), GiveError>
-        requires { other.old.client ≡ None }
-        ensures { Shares self.old.client other.old.client result self.new.client other.new.client }
-    {
         match self.give_share(alloc) {
-            Some(Ok(caller)) => {
-                put(other, room, Client::Caller(caller));
+            Some(Ok(client)) => {
+                *other = Handle::of(client);
                 Ok(())
             }
             Some(Err(error)) => Err(error),
@@ -129,25 +90,9 @@ impl Handle {
         if other.is_open(alloc) {
             return Err(GiveError::Open);
         }
-        match room(alloc) {
-            Some(room) => self.port_into(alloc, room, other),
-            None => Err(GiveError::Memory),
-        }
-    }
-
-    // Opens another handle for a device's port, with room for what that handle is to stand for.
-    fn port_into(
-        &mut self,
-        alloc: Global,
-        room: Box<Client>,
-        other: &mut Handle,
-    ) -> Result<usize, GiveError>
-        requires { other.old.client ≡ None }
-        ensures { GivesDevice self.old.client other.old.client result self.new.client other.new.client }
-    {
         match self.give_port(alloc) {
-            Some((number, Ok(device))) => {
-                put(other, room, Client::Device(device));
+            Some((number, Ok(client))) => {
+                *other = Handle::of(client);
                 Ok(number)
             }
             Some((_, Err(error))) => Err(error),
@@ -156,7 +101,7 @@ impl Handle {
     }
 
     // What a caller gives to another.
-    fn give_share(&mut self, alloc: Global) -> Option<Result<Caller, GiveError>>
+    fn give_share(&mut self, alloc: Global) -> Option<Result<Box<Client>, GiveError>>
         ensures { OnCaller self.old.client result self.new.client (λ c given d. GivesShare c d given) }
     {
         match self.take(alloc) {
@@ -173,14 +118,14 @@ impl Handle {
     }
 
     // What a caller gives to a port, and the number of the device, if there is one.
-    fn give_port(&mut self, alloc: Global) -> Option<(usize, Result<Device, GiveError>)>
+    fn give_port(&mut self, alloc: Global) -> Option<(usize, Result<Box<Client>, GiveError>)>
         ensures { OnCaller self.old.client result self.new.client (λ c given d.
             GivesPort c d given.1 × (given.0 ≡ length c.keys.items)) }
     {
         match self.take(alloc) {
             Some(mut client) => {
                 let given = match &mut *client {
-                    Client::Caller(caller) => Some((caller.keys_left(), caller.port())),
+                    Client::Caller(caller) => Some((caller.keys_left(), caller.port(alloc))),
                     Client::Device(_) | Client::Vacant => None,
                 };
                 *self = Handle::of(client);
