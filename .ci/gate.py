@@ -1,11 +1,12 @@
 #!/usr/bin/env python3
-"""Is `rt ci`, with each crate's stamp worked out once, and with the static library built; where the kit's rt is made
-otherwise, just `rt ci`.
+"""Is `rt ci`, with each crate's stamp worked out once, the lowest crate checked by all processors, and the static library
+built; where the kit's rt is made otherwise, just `rt ci`.
 
 To be run at the top of the repository.
 """
 import contextlib
 import os
+import signal
 import subprocess
 import sys
 import tempfile
@@ -13,6 +14,24 @@ import tempfile
 sys.dont_write_bytecode = True
 
 import kit
+
+
+def checks_the_lowest_crate_by_all_lanes(rt):
+    """Has the crate on which all others stand checked by as many jobs as there are lanes, since nothing can run beside it.
+
+    Each other check has one job (.ci/run says why).
+    """
+    by_one = rt.Crate.ci
+
+    def ci(crate, flags, tests):
+        lanes = os.environ.get("RT_JOBS", "")
+        if lanes.isdigit() and not tests and getattr(crate, "deps", None) == []:
+            status = by_one(crate, ["--jobs", lanes], tests)
+            if status != -signal.SIGKILL:
+                return status
+        return by_one(crate, flags, tests)
+
+    rt.Crate.ci = ci
 
 
 def builds_static_libraries(rt):
@@ -56,6 +75,7 @@ def build(rt, crate, words, checked, library):
 def main():
     try:
         rt = kit.command()
+        checks_the_lowest_crate_by_all_lanes(rt)
         builds_static_libraries(rt)
     except Exception:
         os.execvp("rt", ["rt", "ci"])
