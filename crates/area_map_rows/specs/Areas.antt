@@ -6,6 +6,7 @@ use Rattle.std.specs.Prelude.{find, if◌then◌else◌}
 use Rattle.std.specs.List.{list_any}
 use Rattle.iofd_words.specs.Areas.{area_at, areas_meet, leaving, most_areas, paid, with_tries}
 use Rattle.iofd_words.specs.Bounds.{Bounds}
+use Rattle.iofd_words.specs.Sorted.{inserted}
 use Rattle.iofd_words.specs.Span.{lies_in, holds, meets, size_of, span_from}
 use Rattle.iofd_words.specs.declared.numbers.DeviceNo.{DeviceNo}
 use Rattle.iofd_words.specs.declared.rows.Area.{Area}
@@ -29,9 +30,7 @@ pub record AreKept (areas : List Area) : Type 0 where
 
 -- the areas with this one, before the first that begins after it
 abbrev pub with_area : Area → List Area → List Area
-with_area area [] = area ∷ []
-with_area area (next ∷ others) =
-    if nat_lt area.span.first next.span.first then area ∷ next ∷ others else next ∷ with_area area others
+with_area = inserted (λ (area : Area) (next : Area). nat_lt area.span.first next.span.first)
 
 -- there is an area, and it ends after the address
 abbrev pub ends_after : ℕ → Option Area → Bool

@@ -1,7 +1,8 @@
 -- The areas of one address space, taken from all areas, where one more comes.
-use Rattle.std.proofs.Common.{◌≡◌, Bool, true, false, cond, ◌&&◌, ltb, List, [], ◌∷◌, refl, ap, arith}
+use Rattle.std.proofs.Common.{◌≡◌, Bool, true, false, cond, ◌&&◌, ltb, List, [], ◌∷◌, refl, arith}
 use Rattle.std.proofs.lemmas.Bool.Decides.{nat_tests}
 use Rattle.area_map_rows.specs.Areas as own
+use Rattle.iofd_rows.proofs.Inserted.{filter-inserted}
 use Rattle.iofd_words.specs.Areas.{areas_of, is_of}
 use Rattle.iofd_words.specs.Areas as world
 use Rattle.iofd_words.specs.declared.numbers.FileNo.{FileNo}
@@ -30,11 +31,4 @@ module _ (x : Area) where
   -- another address space has those that it had
   pub with_area_other : (areas : List Area) (f : FileNo) (i : ObjId) → is_of f i x ≡ false
       → areas_of (world.with_area x areas) f i ≡ areas_of areas f i
-  with_area_other [] f i other = rw other refl
-  with_area_other (a ∷ areas) f i other =
-      by_order (is_of x.file x.ioas a && ltb x.span.first a.span.first) (with_area_other areas f i other)
-    where
-      by_order : (b : Bool) → areas_of (world.with_area x areas) f i ≡ areas_of areas f i
-          → areas_of (cond b (x ∷ a ∷ areas) (a ∷ world.with_area x areas)) f i ≡ areas_of (a ∷ areas) f i
-      by_order true rest = rw other refl
-      by_order false rest = ap (λ (l : List Area). cond (is_of f i a) (a ∷ l) l) rest
+  with_area_other areas f i = filter-inserted world.lies_before (is_of f i) x areas

@@ -1,23 +1,23 @@
 -- The objects by which devices are bound, after objects came or went.
-use Rattle.std.proofs.Common.{◌≡◌, ℕ, Bool, true, false, cond, eqb, ltb, is_some, Option, Some, None, List, [], ◌∷◌}
+use Rattle.std.proofs.Common.{◌≡◌, ℕ, Bool, true, false, eqb, is_some, Option, Some, None, List}
 use Rattle.std.proofs.Common.{subst, refl, sym, ◌∙◌, ap}
 use Rattle.std.specs.List.{find, list_any}
 use Rattle.std.proofs.lemmas.Bool.{eqb-true}
-use Rattle.iofd_words.specs.Objects.{binding_of, is_bound_as, is_fresh, with_object}
+use Rattle.iofd_words.specs.Objects.{binding_of, comes_before, is_bound_as, is_fresh, with_object}
 use Rattle.iofd_words.specs.declared.numbers.DeviceNo.{DeviceNo}
 use Rattle.iofd_words.specs.declared.numbers.FileNo.{FileNo}
 use Rattle.iofd_words.specs.declared.numbers.ObjId.{ObjId}
 use Rattle.iofd_words.specs.declared.rows.Object.{Object}
 use Rattle.iofd_words.specs.declared.rows.ObjectKind.TheVariants as kind
-use Rattle.iofd_rows.proofs.Each.{found_new}
 use Rattle.iofd_rows.proofs.Found.{find-with_object}
+use Rattle.iofd_rows.proofs.Inserted.{find-inserted, found-inserted}
 use Rattle.iofd_runs.proofs.Accessed.{each_held}
 use Rattle.iofd_runs.proofs.HoldersStay.{more_accesses}
 use Rattle.iofd_runs.proofs.OwnIds.{any_found}
 use Rattle.std.proofs.Common.{Vec}
 use Rattle.iofd_words.specs.World.{World}
 use Rattle.server_state.proofs.Bindings.{are_with}
-use Rattle.server_state.specs.Devices.{are_bindings, bound_number, with_binding}
+use Rattle.server_state.specs.Devices.{are_bindings, binds_lower, with_binding}
 use Rattle.server_state.specs.Shows.{Shows}
 use Rattle.server_state.specs.Step.{IsTidy}
 use Rattle.server_state.specs.declared.held.Held.{Held}
@@ -38,32 +38,6 @@ none_any p xs none = by_found (find p xs) refl none
     by_found None is none = (is, any_found p xs ∙ ap (λ (o : Option Object). is_some o) is)
     by_found (Some x) is none = cc
 
--- what is found among them once one came
-found_with : (p : Object → Bool) (b : Object) (bindings : List Object) → p b ≡ true → find p bindings ≡ None
-    → find p (with_binding b bindings) ≡ Some b
-found_with p b [] here none = rw here refl
-found_with p b (c ∷ bindings) here none =
-    by_tests (ltb (bound_number b.kind) (bound_number c.kind)) (p c) refl none
-    (λ later. found_with p b bindings here later)
-  where
-    by_tests : (above passes : Bool) → p c ≡ passes → cond passes (Some c) (find p bindings) ≡ None
-        → (find p bindings ≡ None → find p (with_binding b bindings) ≡ Some b)
-        → find p (cond above (b ∷ c ∷ bindings) (c ∷ with_binding b bindings)) ≡ Some b
-    by_tests true passes is none rest = rw here refl
-    by_tests false true is none rest = cc
-    by_tests false false is none rest = rw is (rest none)
-
-others_with : (p : Object → Bool) (b : Object) (bindings : List Object) → p b ≡ false
-    → find p (with_binding b bindings) ≡ find p bindings
-others_with p b [] fails = rw fails refl
-others_with p b (c ∷ bindings) fails =
-    by_order (ltb (bound_number b.kind) (bound_number c.kind)) (others_with p b bindings fails)
-  where
-    by_order : (above : Bool) → find p (with_binding b bindings) ≡ find p bindings
-        → find p (cond above (b ∷ c ∷ bindings) (c ∷ with_binding b bindings)) ≡ cond (p c) (Some c) (find p bindings)
-    by_order true rest = rw fails refl
-    by_order false rest = ap (cond (p c) (Some c)) rest
-
 -- a device that wasn't bound is bound by the object that came
 pub bound_by : (objects bindings : List Object) (file : FileNo) (id : ObjId) (device : DeviceNo)
     → ((d : DeviceNo) → binding_of objects d ≡ find (λ object. is_bound_as d object.kind) bindings)
@@ -83,12 +57,15 @@ bound_by objects bindings file id device same free d =
         let object : Object = record { file = file; id = id; kind = kind.Device device } in
         let free_d = subst (λ (e : DeviceNo). is_some (binding_of objects e) ≡ false) (same_device device d is) free in
         let none = none_any (λ (o : Object). is_bound_as d o.kind) objects free_d in
-        found_new (λ (o : Object). is_bound_as d o.kind) object objects is none.1
-        ∙ sym (found_with (λ (o : Object). is_bound_as d o.kind) object bindings is (sym (same d) ∙ none.0))
+        let unbound : list_any (λ (o : Object). is_bound_as d o.kind) bindings ≡ false =
+        any_found (λ (o : Object). is_bound_as d o.kind) bindings
+        ∙ ap (λ (o : Option Object). is_some o) (sym (same d) ∙ none.0) in
+        found-inserted comes_before (λ (o : Object). is_bound_as d o.kind) object objects is none.1
+        ∙ sym (found-inserted binds_lower (λ (o : Object). is_bound_as d o.kind) object bindings is unbound)
     by_device false is =
         let object : Object = record { file = file; id = id; kind = kind.Device device } in
         find-with_object (λ (o : Object). is_bound_as d o.kind) object objects is ∙ same d
-        ∙ sym (others_with (λ (o : Object). is_bound_as d o.kind) object bindings is)
+        ∙ sym (find-inserted binds_lower (λ (o : Object). is_bound_as d o.kind) object bindings is)
 
 module _ {A : Type 0} where
   -- by which a device is bound that wasn't

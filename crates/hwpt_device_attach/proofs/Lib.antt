@@ -15,7 +15,6 @@ pub mod Narrowed
 pub mod NeverRefused
 pub mod PinnedFirst
 pub mod PinnedNone
-pub mod Placed
 pub mod RootAdded
 pub mod SpaceCounted
 pub mod TableMade

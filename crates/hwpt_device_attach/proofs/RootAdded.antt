@@ -1,6 +1,6 @@
 -- A page table is added with its root, and then its areas are mapped in it.
 use Rattle.std.proofs.Common.{◌≡◌, ℕ, ◌+◌, ◌≤◌, Bool, true, false, cond, eqb, set, Option, Some, None, List, [], ◌∷◌}
-use Rattle.std.proofs.Common.{◌++◌, length, length-append, refl, ap, subst, sym, ◌∙◌, arith}
+use Rattle.std.proofs.Common.{◌++◌, is_some, length, length-append, refl, ap, subst, sym, ◌∙◌, arith}
 use Rattle.std.specs.Prelude.{IfSome}
 use Rattle.std.proofs.lemmas.Bool.{eq-eqb}
 use Rattle.std.proofs.lemmas.List.{get_or-set_other}
@@ -12,9 +12,8 @@ use Rattle.page_table_set.proofs.Missing.{missing_at}
 use Rattle.page_table_set.proofs.Staying.{all_told}
 use Rattle.page_table_set.specs.OverSpans.{frames_for, with_missing}
 use Rattle.page_table_set.specs.PageTables.{AllStand, Hwpt, KeepsOthers, hwpt_at, hwpt_of, root_frame, rows_of}
-use Rattle.page_table_set.specs.PageTables.{tables_in}
-use Rattle.page_table_set.specs.PageTables.{with_hwpt}
-use Rattle.iofd_words.specs.Objects.{comes_before, is_object}
+use Rattle.page_table_set.specs.PageTables.{stands_before, tables_in, with_hwpt}
+use Rattle.iofd_words.specs.Objects.{is_object}
 use Rattle.iofd_words.specs.TablePlaces.{has_table, live_pages, root_place}
 use Rattle.iofd_words.specs.Tables.{MissingTable, in_frames}
 use Rattle.iofd_words.specs.declared.numbers.FrameNo.{FrameNo}
@@ -28,6 +27,8 @@ use Rattle.page_table_words.proofs.Frames.{free_taken, least_frames_more, no_fra
 use Rattle.page_table_words.specs.Rows.{TableRow}
 use Rattle.user_memory.specs.Memory.{Memory}
 use Rattle.iofd_rows.proofs.Bools.{clash}
+use Rattle.iofd_rows.proofs.Inserted.{found-inserted}
+use Rattle.iofd_rows.proofs.OwnIds.{any_found}
 use Rattle.hwpt_device_attach.proofs.Filled.{fails_both, tables_fewer}
 use Rattle.hwpt_device_attach.proofs.FilledInTurn.{Leads, as_many, more_filled}
 use Rattle.hwpt_device_attach.specs.Filling.{Adds, CanAdd, CanFill, Fills, IsFilled, filled, tables_for}
@@ -59,18 +60,10 @@ itself h =
 
 pub found_new : (h : Hwpt) (tables : List Hwpt) → hwpt_of tables h.object.file h.object.id ≡ None
     → hwpt_of (with_hwpt h tables) h.object.file h.object.id ≡ Some h
-found_new h [] none = rw (itself h) refl
-found_new h (t ∷ tables) none = by_order (comes_before h.object t.object) (is_object h.object.file h.object.id t.object)
-    refl none (found_new h tables)
-  where
-    by_order : (b c : Bool) → is_object h.object.file h.object.id t.object ≡ c
-        → cond c (Some t) (hwpt_of tables h.object.file h.object.id) ≡ None
-        → (hwpt_of tables h.object.file h.object.id ≡ None
-        → hwpt_of (with_hwpt h tables) h.object.file h.object.id ≡ Some h)
-        → hwpt_of (cond b (h ∷ t ∷ tables) (t ∷ with_hwpt h tables)) h.object.file h.object.id ≡ Some h
-    by_order true c is none later = rw (itself h) refl
-    by_order false true is none later = cc
-    by_order false false is none later = rw is (later none)
+found_new h tables none =
+    found-inserted stands_before (λ (t : Hwpt). is_object h.object.file h.object.id t.object) h tables (itself h)
+    (any_found (λ (t : Hwpt). is_object h.object.file h.object.id t.object) tables
+    ∙ ap (λ (o : Option Hwpt). is_some o) none)
 
 -- ---- a frame for it
 

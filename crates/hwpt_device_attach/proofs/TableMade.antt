@@ -1,16 +1,18 @@
 -- What is kept after a page table came with its tables shows the world with it and them.
-use Rattle.std.proofs.Common.{◌≡◌, ◌⊎◌, ◌+◌, ◌<◌, ◌≤◌, ℕ, Bool, true, false, cond, eqb, ltb, is_some, Option, Some}
-use Rattle.std.proofs.Common.{None, List, [], ◌∷◌, ◌++◌, length, map, refl, sym, ◌∙◌, ap, subst, arith, inl, inr}
+use Rattle.std.proofs.Common.{◌≡◌, ◌⊎◌, ◌+◌, ◌<◌, ◌≤◌, ℕ, Bool, true, cond, eqb, ltb, is_some, Option, Some}
+use Rattle.std.proofs.Common.{None, List, [], ◌++◌, length, map, refl, sym, ◌∙◌, ap, subst, arith, inl, inr}
 use Rattle.std.specs.Prelude.{slice_index}
 use Rattle.std.specs.List.{list_all}
 use Rattle.std.proofs.lemmas.Bool.{eq-eqb, eqb-true, ltb-true}
 use Rattle.frame_memory.specs.Pool.{FramePool, free_count}
 use Rattle.page_table_set.proofs.Inserted.{in_with}
 use Rattle.page_table_set.proofs.Missing.{least_are_free}
-use Rattle.page_table_set.specs.PageTables.{AllStand, Hwpt, KeepsOthers, PageTables, hwpt_at, with_hwpt}
-use Rattle.iofd_rows.proofs.Bools.{and_true, both_true}
+use Rattle.page_table_set.proofs.OwnIds.{objects-with_hwpt}
+use Rattle.page_table_set.specs.PageTables.{AllStand, Hwpt, KeepsOthers, PageTables, hwpt_at, stands_before, with_hwpt}
+use Rattle.iofd_rows.proofs.Bools.{and_true}
 use Rattle.iofd_rows.proofs.Each.{IsIn, of_any, of_each}
 use Rattle.iofd_rows.proofs.Found.{find-with_object}
+use Rattle.iofd_rows.proofs.Inserted.{all-inserted}
 use Rattle.iofd_runs.proofs.Accessed.{each_held}
 use Rattle.iofd_runs.proofs.RisingLists.{filter-with_object}
 use Rattle.iofd_runs.proofs.StillTabled.{none_given}
@@ -18,7 +20,7 @@ use Rattle.iofd_runs.proofs.TableCounts.{missing_with_object}
 use Rattle.iofd_words.specs.After.{settle}
 use Rattle.iofd_words.specs.Areas.{areas_of}
 use Rattle.iofd_words.specs.Frames.{is_free}
-use Rattle.iofd_words.specs.Objects.{comes_before, is_bound_as, is_fresh, is_hwpt, is_object, with_object}
+use Rattle.iofd_words.specs.Objects.{is_bound_as, is_fresh, is_hwpt, is_object, with_object}
 use Rattle.iofd_words.specs.TablePlaces.{live_pages}
 use Rattle.iofd_words.specs.Tables.{MissingTable, are_different, in_frames, missing_tables, tables_after, with_tables}
 use Rattle.iofd_words.specs.View.{view}
@@ -65,30 +67,9 @@ use Rattle.hwpt_device_attach.specs.Pinning.{newly_translated}
 
 -- ---- one more page table
 
-pub objects-with_hwpt : (h : Hwpt) (tables : List Hwpt)
-    → map (λ (x : Hwpt). x.object) (with_hwpt h tables) ≡ with_object h.object (map (λ (x : Hwpt). x.object) tables)
-objects-with_hwpt h [] = refl
-objects-with_hwpt h (t ∷ tables) = by_order (comes_before h.object t.object) (objects-with_hwpt h tables)
-  where
-    by_order : (b : Bool) → map (λ (x : Hwpt). x.object) (with_hwpt h tables) ≡ with_object h.object
-        (map (λ (x : Hwpt). x.object) tables)
-        → map (λ (x : Hwpt). x.object) (cond b (h ∷ t ∷ tables) (t ∷ with_hwpt h tables)) ≡ cond b
-        (h.object ∷ t.object ∷ map (λ (x : Hwpt). x.object) tables)
-        (t.object ∷ with_object h.object (map (λ (x : Hwpt). x.object) tables))
-    by_order true rest = refl
-    by_order false rest = ap (λ (os : List Object). t.object ∷ os) rest
-
 widths-with_hwpt : (h : Hwpt) (tables : List Hwpt) → has_own_width h ≡ true → list_all has_own_width tables ≡ true
     → list_all has_own_width (with_hwpt h tables) ≡ true
-widths-with_hwpt h [] own all = rw own refl
-widths-with_hwpt h (t ∷ tables) own all =
-    let parts = and_true (has_own_width t) (list_all has_own_width tables) all in
-    by_order (comes_before h.object t.object) (widths-with_hwpt h tables own parts.1) parts.0
-  where
-    by_order : (b : Bool) → list_all has_own_width (with_hwpt h tables) ≡ true → has_own_width t ≡ true
-        → list_all has_own_width (cond b (h ∷ t ∷ tables) (t ∷ with_hwpt h tables)) ≡ true
-    by_order true rest first = both_true _ _ own all
-    by_order false rest first = both_true _ _ first rest
+widths-with_hwpt = all-inserted stands_before has_own_width
 
 -- ---- numbers of frames
 

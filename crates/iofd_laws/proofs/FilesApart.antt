@@ -9,9 +9,10 @@ use Rattle.iofd_words.specs.After.{changed, copy_changes, map_changes, hwpt_chan
 use Rattle.iofd_words.specs.After.{settle, without_areas, attached, detached, joined, goes_with, tracked_without}
 use Rattle.iofd_words.specs.After.{mapped_area, with_hwpt}
 use Rattle.iofd_words.specs.Allowed.{AllowedRanges, with_allowed, without_allowed}
-use Rattle.iofd_words.specs.Areas.{all_paid, owed_by, paid, is_touched, leaving, with_area, with_phase}
+use Rattle.iofd_words.specs.Areas.{all_paid, lies_before, owed_by, paid, is_touched, leaving, with_area, with_phase}
 use Rattle.iofd_words.specs.Areas.{tried, touched_tries}
-use Rattle.iofd_words.specs.Attachments.{attachment_of, with_attachment, without_attachment, devices_of}
+use Rattle.iofd_words.specs.Attachments.{attachment_of, devices_of, has_lower_device, with_attachment}
+use Rattle.iofd_words.specs.Attachments.{without_attachment}
 use Rattle.iofd_words.specs.Checks.{refusal}
 use Rattle.iofd_words.specs.Copies.{placed_as}
 use Rattle.iofd_words.specs.DeviceSet.{without_device}
@@ -47,6 +48,7 @@ use Rattle.iofd_rows.proofs.Bools.{and_true, not_false}
 use Rattle.iofd_laws.proofs.Bound.{AreBound}
 use Rattle.iofd_rows.proofs.Bound.{is_bound_to, is_of_file}
 use Rattle.iofd_rows.proofs.Found.{found_passes}
+use Rattle.iofd_rows.proofs.Inserted.{filter-inserted}
 use Rattle.iofd_rows.proofs.Accesses.{reattached, reattached_is, same_name}
 use Rattle.iofd_runs.proofs.CopySource.{source_area}
 use Rattle.iofd_runs.proofs.NotRefused.{detach_passed, flush_passed, passes, write_passed}
@@ -102,43 +104,19 @@ other_file own file differ = grind (arith, nat_tests)
 
 objects-with_object : (object : Object) (objects : List Object) (file : FileNo) → eqb object.file.0 file.0 ≡ false
     → objects_of (with_object object objects) file ≡ objects_of objects file
-objects-with_object object [] file differ = rw differ refl
-objects-with_object object (o ∷ objects) file differ =
-    by_order (comes_before object o) (objects-with_object object objects file differ)
-  where
-    by_order : (b : Bool) → objects_of (with_object object objects) file ≡ objects_of objects file
-        → objects_of (cond b (object ∷ o ∷ objects) (o ∷ with_object object objects))
-        file ≡ objects_of (o ∷ objects) file
-    by_order true rest = rw differ refl
-    by_order false rest = ap (λ os. cond (eqb o.file.0 file.0) (o ∷ os) os) rest
+objects-with_object object objects file =
+    filter-inserted comes_before (λ (o : Object). eqb o.file.0 file.0) object objects
 
 areas-with_area : (area : Area) (areas : List Area) (file : FileNo) → eqb area.file.0 file.0 ≡ false
     → filter (λ (a : Area). eqb a.file.0 file.0) (with_area area areas) ≡ filter
     (λ (a : Area). eqb a.file.0 file.0) areas
-areas-with_area area [] file differ = rw differ refl
-areas-with_area area (a ∷ areas) file differ = by_order _ (areas-with_area area areas file differ)
-  where
-    by_order : (b : Bool) → filter (λ (a : Area). eqb a.file.0 file.0) (with_area area areas) ≡ filter
-        (λ (a : Area). eqb a.file.0 file.0) areas
-        → filter (λ (a : Area). eqb a.file.0 file.0) (cond b (area ∷ a ∷ areas) (a ∷ with_area area areas)) ≡ filter
-        (λ (a : Area). eqb a.file.0 file.0) (a ∷ areas)
-    by_order true rest = rw differ refl
-    by_order false rest = ap (λ as_. cond (eqb a.file.0 file.0) (a ∷ as_) as_) rest
+areas-with_area area areas file = filter-inserted lies_before (λ (a : Area). eqb a.file.0 file.0) area areas
 
 attachments-with_attachment_other : (attachment : Attachment) (attachments : List Attachment) (file : FileNo)
     → eqb attachment.file.0 file.0 ≡ false → filter (λ (a : Attachment). eqb a.file.0 file.0)
     (with_attachment attachment attachments) ≡ filter (λ (a : Attachment). eqb a.file.0 file.0) attachments
-attachments-with_attachment_other attachment [] file differ = rw differ refl
-attachments-with_attachment_other attachment (a ∷ attachments) file differ =
-    by_order _ (attachments-with_attachment_other attachment attachments file differ)
-  where
-    by_order : (b : Bool) → filter (λ (a : Attachment). eqb a.file.0 file.0) (with_attachment attachment attachments)
-        ≡ filter (λ (a : Attachment). eqb a.file.0 file.0) attachments
-        → filter (λ (a : Attachment). eqb a.file.0 file.0)
-        (cond b (attachment ∷ a ∷ attachments) (a ∷ with_attachment attachment attachments)) ≡ filter
-        (λ (a : Attachment). eqb a.file.0 file.0) (a ∷ attachments)
-    by_order true rest = rw differ refl
-    by_order false rest = ap (λ others. cond (eqb a.file.0 file.0) (a ∷ others) others) rest
+attachments-with_attachment_other attachment attachments file =
+    filter-inserted has_lower_device (λ (a : Attachment). eqb a.file.0 file.0) attachment attachments
 
 closed_more : (files : List FileNo) (own file : FileNo) → eqb own.0 file.0 ≡ false
     → list_any (λ (f : FileNo). eqb f.0 file.0) (files ++ own ∷ []) ≡ list_any (λ (f : FileNo). eqb f.0 file.0) files

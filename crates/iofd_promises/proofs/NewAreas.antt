@@ -1,11 +1,11 @@
 -- What a MAP and a COPY make.
 use Rattle.std.proofs.Common.{◌≡◌, ◌≢◌, ◌⊎◌, ◌≤◌, Contains, sym, ℕ, zero, suc, ◌+◌, ◌-◌, ◌*◌, ◌/◌, ◌%◌, Bool, true}
-use Rattle.std.proofs.Common.{false, cond, ◌&&◌, eqb, ltb, is_none, is_some, Option, Some, None, List, [], ◌∷◌, ◌++◌}
-use Rattle.std.proofs.Common.{refl, arith, inl, inr}
+use Rattle.std.proofs.Common.{false, cond, eqb, ltb, is_none, is_some, Option, Some, None, List, [], ◌∷◌, ◌++◌}
+use Rattle.std.proofs.Common.{refl, arith, inl, inr, ⊎_elim}
 use Rattle.std.proofs.Math.Nat.{div-add-mod}
 use Rattle.std.proofs.lemmas.Bool.Decides.{nat_tests}
 use Rattle.iofd_words.specs.After.{changed, copy_changes, map_changes, mapped_area, memory_object, settle}
-use Rattle.iofd_words.specs.Areas.{is_of, with_area}
+use Rattle.iofd_words.specs.Areas.{lies_before, with_area}
 use Rattle.iofd_words.specs.Checks.{refusal}
 use Rattle.iofd_words.specs.Copies.{placed_as}
 use Rattle.iofd_words.specs.Files.{numbered, user_of}
@@ -27,7 +27,7 @@ use Rattle.iofd_words.specs.declared.rows.MemoryObject.{MemoryObject}
 use Rattle.iofd_words.specs.declared.rows.Phase.{Phase}
 use Rattle.iofd_words.specs.declared.rows.Phase.TheVariants.{Live, Leaving}
 use Rattle.iofd_rows.proofs.Bools.{and_true}
-use Rattle.iofd_rows.proofs.Each.{IsIn, of_each, area_added}
+use Rattle.iofd_rows.proofs.Each.{IsIn, area_added, in_with_area, inserted_in, of_each}
 use Rattle.iofd_rows.proofs.Named.{id_is}
 use Rattle.iofd_rows.specs.Pinned.{ArePinned}
 use Rattle.iofd_runs.proofs.CopySource.{source_area, source_is}
@@ -39,32 +39,11 @@ use Rattle.iofd_promises.proofs.Rows.{contains, within}
 -- ---- one more row
 
 pub stays_in : (area : Area) (areas : List Area) (x : Area) → IsIn areas x → IsIn (with_area area areas) x
-stays_in area [] x there = absurd there
-stays_in area (a ∷ areas) x there =
-    by_order (is_of area.file area.ioas a && ltb area.span.first a.span.first) there (stays_in area areas x)
-  where
-    by_order : (b : Bool) → IsIn (a ∷ areas) x → (IsIn areas x → IsIn (with_area area areas) x)
-        → IsIn (cond b (area ∷ a ∷ areas) (a ∷ with_area area areas)) x
-    by_order true there rest = inr there
-    by_order false (inl same) rest = inl same
-    by_order false (inr later) rest = inr (rest later)
+stays_in area areas x there = inserted_in lies_before area areas x (inr there)
 
 comes_from : (area : Area) (areas : List Area) (x : Area) → IsIn (with_area area areas) x → (x ≡ area) ⊎ IsIn areas x
-comes_from area [] x (inl same) = inl (sym same)
-comes_from area [] x (inr none) = absurd none
-comes_from area (a ∷ areas) x there =
-    by_order (is_of area.file area.ioas a && ltb area.span.first a.span.first) there (comes_from area areas x)
-  where
-    by_order : (b : Bool) → IsIn (cond b (area ∷ a ∷ areas) (a ∷ with_area area areas)) x
-        → (IsIn (with_area area areas) x → (x ≡ area) ⊎ IsIn areas x) → (x ≡ area) ⊎ IsIn (a ∷ areas) x
-    by_order true (inl same) rest = inl (sym same)
-    by_order true (inr there) rest = inr there
-    by_order false (inl same) rest = inr (inl same)
-    by_order false (inr later) rest = later_in (rest later)
-      where
-        later_in : (x ≡ area) ⊎ IsIn areas x → (x ≡ area) ⊎ IsIn (a ∷ areas) x
-        later_in (inl same) = inl same
-        later_in (inr there) = inr (inr there)
+comes_from area areas x there = ⊎_elim (λ (new : area ≡ x). inl (sym new)) (λ (old : IsIn areas x). inr old)
+    (in_with_area area areas x there)
 
 last_in : {X : Type 0} (xs : List X) (x : X) → IsIn (xs ++ x ∷ []) x
 last_in [] x = inl refl

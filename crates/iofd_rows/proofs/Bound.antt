@@ -4,7 +4,7 @@ use Rattle.std.proofs.Common.{◌∷◌, is_some, refl, ap, ◌∙◌, arith}
 use Rattle.std.specs.List.{filter, find, list_all, list_any}
 use Rattle.std.proofs.lemmas.Bool.{eqb-true}
 use Rattle.std.proofs.lemmas.Bool.Decides.{nat_tests}
-use Rattle.iofd_words.specs.Attachments.{attachment_of, with_attachment}
+use Rattle.iofd_words.specs.Attachments.{attachment_of, has_lower_device, with_attachment}
 use Rattle.iofd_words.specs.Checks.{is_attached, is_device_object}
 use Rattle.iofd_rows.specs.Debts.{attach_once}
 use Rattle.iofd_rows.specs.Ids.{have_own_ids}
@@ -19,9 +19,10 @@ use Rattle.iofd_words.specs.declared.rows.Attachment.{Attachment}
 use Rattle.iofd_words.specs.declared.rows.Object.{Object}
 use Rattle.iofd_words.specs.declared.rows.ObjectKind.{ObjectKind}
 use Rattle.iofd_words.specs.declared.rows.ObjectKind.TheVariants as kind
-use Rattle.iofd_rows.proofs.Bools.{or_false, and_true, both_true, not_true}
+use Rattle.iofd_rows.proofs.Bools.{or_false, and_true, not_true}
 use Rattle.iofd_rows.proofs.Each.{IsIn, of_all, of_each}
 use Rattle.iofd_rows.proofs.Found.{all_weaker, find-filter, find-with_object}
+use Rattle.iofd_rows.proofs.Inserted.{all-inserted}
 use Rattle.iofd_rows.proofs.ListTests.{false_else}
 use Rattle.iofd_rows.proofs.Moves.{found_once}
 use Rattle.iofd_rows.proofs.Named.{file_is, id_is, kind_only}
@@ -58,17 +59,8 @@ find_stays old new same = λ file device bound. ap (is_of_file file) (same (reco
 pub attachments-with_attachment : (objects : List Object) (attachment : Attachment) (attachments : List Attachment)
     → is_bound_to objects attachment.file attachment.device.0 ≡ true → attachments_bound objects attachments ≡ true
     → attachments_bound objects (with_attachment attachment attachments) ≡ true
-attachments-with_attachment objects attachment [] here all = both_true _ _ here refl
-attachments-with_attachment objects attachment (a ∷ attachments) here all =
-    let parts = and_true (is_bound_to objects a.file a.device.0) (attachments_bound objects attachments) all in
-    added _ (attachments-with_attachment objects attachment attachments here parts.1) parts.0
-  where
-    added : (b : Bool) → attachments_bound objects (with_attachment attachment attachments) ≡ true
-        → is_bound_to objects a.file a.device.0 ≡ true
-        → attachments_bound objects (cond b (attachment ∷ a ∷ attachments) (a ∷ with_attachment attachment attachments))
-        ≡ true
-    added true rest first = both_true _ _ here all
-    added false rest first = both_true _ _ first rest
+attachments-with_attachment objects =
+    all-inserted has_lower_device (λ (a : Attachment). is_bound_to objects a.file a.device.0)
 
 -- ---- objects that come or go
 

@@ -12,6 +12,7 @@ use Rattle.iofd_words.specs.declared.rows.Object.{Object}
 use Rattle.iofd_words.specs.declared.rows.ObjectKind.{ObjectKind}
 use Rattle.iofd_words.specs.declared.rows.ObjectKind.TheVariants as kind
 use Rattle.iofd_rows.specs.Ids.{AreBoundOnce}
+use Rattle.iofd_rows.proofs.Inserted.{count-inserted}
 use Rattle.iofd_rows.proofs.PageCounts.{count-cons}
 
 count-filter : {X : Type 0} (p q : X → Bool) (xs : List X) → count_by p (filter q xs) ≤ count_by p xs
@@ -22,18 +23,6 @@ count-filter p q (x ∷ xs) = rw (count-cons p x xs) (by_test (q x) (count-filte
         → count_by p (cond b (x ∷ filter q xs) (filter q xs)) ≤ cond (p x) 1 0 + count_by p xs
     by_test true rest = rw (count-cons p x (filter q xs)) (omega (arith, rest))
     by_test false rest = omega (arith, rest)
-
-count-with_object : (p : Object → Bool) (object : Object) (objects : List Object)
-    → count_by p (with_object object objects) ≡ cond (p object) 1 0 + count_by p objects
-count-with_object p object [] = count-cons p object []
-count-with_object p object (o ∷ objects) =
-    rw (count-cons p o objects) (by_order (comes_before object o) (count-with_object p object objects))
-  where
-    by_order : (b : Bool) → count_by p (with_object object objects) ≡ cond (p object) 1 0 + count_by p objects
-        → count_by p (cond b (object ∷ o ∷ objects) (o ∷ with_object object objects)) ≡ cond (p object) 1 0
-        + (cond (p o) 1 0 + count_by p objects)
-    by_order true rest = rw (count-cons p object (o ∷ objects), count-cons p o objects) refl
-    by_order false rest = rw (count-cons p o (with_object object objects)) (omega (arith, rest))
 
 -- none is found just where none is counted
 pub none_counted : {X : Type 0} (p : X → Bool) (xs : List X) → find p xs ≡ None → count_by p xs ≡ 0
@@ -70,7 +59,7 @@ pub once-with_object : (object : Object) (objects : List Object)
     → ((device : DeviceNo) → is_bound_as device object.kind ≡ true → binding_of objects device ≡ None)
     → AreBoundOnce objects → AreBoundOnce (with_object object objects)
 once-with_object object objects free once device =
-    rw (count-with_object (λ o. is_bound_as device o.kind) object objects)
+    rw (count-inserted comes_before (λ (o : Object). is_bound_as device o.kind) object objects)
     (by_test (is_bound_as device object.kind) refl)
   where
     by_test : (b : Bool) → is_bound_as device object.kind ≡ b

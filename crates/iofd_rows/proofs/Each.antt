@@ -1,14 +1,15 @@
 -- What holds of each row of a list, said of any row that is in it.
 use Rattle.std.proofs.Common.{◌≡◌, Bool, true, false, cond, ◌||◌, Some, List, [], ◌∷◌, map, refl, ap, sym, ◌∙◌, ◌⊎◌}
-use Rattle.std.proofs.Common.{inl, inr, ⊎_elim, ◌&&◌, ltb}
+use Rattle.std.proofs.Common.{inl, inr, ⊎_elim}
 use Rattle.std.specs.List.{filter, find, list_all, list_any}
-use Rattle.iofd_words.specs.Areas.{with_area, is_of}
-use Rattle.iofd_words.specs.Attachments.{with_attachment}
+use Rattle.iofd_words.specs.Areas.{lies_before, with_area}
+use Rattle.iofd_words.specs.Attachments.{has_lower_device, with_attachment}
 use Rattle.iofd_words.specs.Objects.{comes_before, with_object}
+use Rattle.iofd_words.specs.Sorted.{inserted}
 use Rattle.iofd_words.specs.declared.rows.Area.{Area}
 use Rattle.iofd_words.specs.declared.rows.Attachment.{Attachment}
 use Rattle.iofd_words.specs.declared.rows.Object.{Object}
-use Rattle.iofd_rows.proofs.Bools.{and_true, both_true, or_false}
+use Rattle.iofd_rows.proofs.Bools.{and_true, both_true}
 
 -- the row is in the list
 abbrev pub IsIn : {X : Type 0} → List X → X → Type 0
@@ -64,55 +65,47 @@ in_map h (x ∷ xs) y (inr later) = let rest = in_map h xs y later in (rest.0, i
 
 -- ---- one more row
 
+module _ {X : Type 0} (before : X → X → Bool) where
+  pub in_inserted : (row : X) (rows : List X) (x : X) → IsIn (inserted before row rows) x
+      → (row ≡ x) ⊎ IsIn rows x
+  in_inserted row [] x within = within
+  in_inserted row (r ∷ rows) x within = by_order (before row r) within (in_inserted row rows x)
+    where
+      by_order : (b : Bool) → IsIn (cond b (row ∷ r ∷ rows) (r ∷ inserted before row rows)) x
+          → (IsIn (inserted before row rows) x → (row ≡ x) ⊎ IsIn rows x)
+          → (row ≡ x) ⊎ ((r ≡ x) ⊎ IsIn rows x)
+      by_order true within later = within
+      by_order false (inl same) later = inr (inl same)
+      by_order false (inr rest) later =
+          ⊎_elim (λ (new : row ≡ x). inl new) (λ (old : IsIn rows x). inr (inr old)) (later rest)
+
+  pub inserted_in : (row : X) (rows : List X) (x : X) → (row ≡ x) ⊎ IsIn rows x
+      → IsIn (inserted before row rows) x
+  inserted_in row [] x within = within
+  inserted_in row (r ∷ rows) x within = by_order (before row r) within (inserted_in row rows x)
+    where
+      by_order : (b : Bool) → (row ≡ x) ⊎ ((r ≡ x) ⊎ IsIn rows x)
+          → ((row ≡ x) ⊎ IsIn rows x → IsIn (inserted before row rows) x)
+          → IsIn (cond b (row ∷ r ∷ rows) (r ∷ inserted before row rows)) x
+      by_order true within rest = within
+      by_order false (inl new) rest = inr (rest (inl new))
+      by_order false (inr (inl same)) rest = inl same
+      by_order false (inr (inr later)) rest = inr (rest (inr later))
+
 pub in_with_object : (object : Object) (objects : List Object) (x : Object) → IsIn (with_object object objects) x
     → (object ≡ x) ⊎ IsIn objects x
-in_with_object object [] x within = within
-in_with_object object (o ∷ objects) x within =
-    by_order (comes_before object o) within (λ later. in_with_object object objects x later)
-  where
-    by_order : (b : Bool) → IsIn (cond b (object ∷ o ∷ objects) (o ∷ with_object object objects)) x
-        → (IsIn (with_object object objects) x → (object ≡ x) ⊎ IsIn objects x)
-        → (object ≡ x) ⊎ ((o ≡ x) ⊎ IsIn objects x)
-    by_order true within later = within
-    by_order false (inl same) later = inr (inl same)
-    by_order false (inr rest) later =
-        ⊎_elim (λ (new : object ≡ x). inl new) (λ (old : IsIn objects x). inr (inr old)) (later rest)
+in_with_object = in_inserted comes_before
 
 pub area_added : (area : Area) (areas : List Area) → IsIn (with_area area areas) area
-area_added area [] = inl refl
-area_added area (a ∷ areas) =
-    by_order (is_of area.file area.ioas a && ltb area.span.first a.span.first) (area_added area areas)
-  where
-    by_order : (b : Bool) → IsIn (with_area area areas) area
-        → IsIn (cond b (area ∷ a ∷ areas) (a ∷ with_area area areas)) area
-    by_order true rest = inl refl
-    by_order false rest = inr rest
+area_added area areas = inserted_in lies_before area areas area (inl refl)
 
 pub in_with_area : (area : Area) (areas : List Area) (x : Area) → IsIn (with_area area areas) x
     → (area ≡ x) ⊎ IsIn areas x
-in_with_area area [] x within = within
-in_with_area area (a ∷ areas) x within = by_order _ within (λ later. in_with_area area areas x later)
-  where
-    by_order : (b : Bool) → IsIn (cond b (area ∷ a ∷ areas) (a ∷ with_area area areas)) x
-        → (IsIn (with_area area areas) x → (area ≡ x) ⊎ IsIn areas x) → (area ≡ x) ⊎ ((a ≡ x) ⊎ IsIn areas x)
-    by_order true within later = within
-    by_order false (inl same) later = inr (inl same)
-    by_order false (inr rest) later =
-        ⊎_elim (λ (new : area ≡ x). inl new) (λ (old : IsIn areas x). inr (inr old)) (later rest)
+in_with_area = in_inserted lies_before
 
 pub in_with_attachment : (attachment : Attachment) (attachments : List Attachment) (x : Attachment)
     → IsIn (with_attachment attachment attachments) x → (attachment ≡ x) ⊎ IsIn attachments x
-in_with_attachment attachment [] x within = within
-in_with_attachment attachment (a ∷ attachments) x within =
-    by_order _ within (λ later. in_with_attachment attachment attachments x later)
-  where
-    by_order : (b : Bool) → IsIn (cond b (attachment ∷ a ∷ attachments) (a ∷ with_attachment attachment attachments)) x
-        → (IsIn (with_attachment attachment attachments) x → (attachment ≡ x) ⊎ IsIn attachments x)
-        → (attachment ≡ x) ⊎ ((a ≡ x) ⊎ IsIn attachments x)
-    by_order true within later = within
-    by_order false (inl same) later = inr (inl same)
-    by_order false (inr rest) later =
-        ⊎_elim (λ (new : attachment ≡ x). inl new) (λ (old : IsIn attachments x). inr (inr old)) (later rest)
+in_with_attachment = in_inserted has_lower_device
 
 -- ---- the first row that passes
 
@@ -129,19 +122,6 @@ found_kept p q (y ∷ ys) x found kept = by_tests (p y) (q y) refl refl found (�
     by_tests true false is here found later = let same : y ≡ x = cc in let other = ap q same in cc
     by_tests false true is here found later = rw is (later found)
     by_tests false false is here found later = later found
-
--- a new object is the first where no other passes
-pub found_new : (p : Object → Bool) (object : Object) (objects : List Object) → p object ≡ true
-    → list_any p objects ≡ false → find p (with_object object objects) ≡ Some object
-found_new p object [] passes none = rw passes refl
-found_new p object (o ∷ objects) passes none =
-    let parts = or_false (p o) (list_any p objects) none in
-    by_order (comes_before object o) parts.0 (found_new p object objects passes parts.1)
-  where
-    by_order : (b : Bool) → p o ≡ false → find p (with_object object objects) ≡ Some object
-        → find p (cond b (object ∷ o ∷ objects) (o ∷ with_object object objects)) ≡ Some object
-    by_order true other rest = rw passes refl
-    by_order false other rest = rw other rest
 
 -- what passes is kept
 pub in_kept : {X : Type 0} (q : X → Bool) (xs : List X) (x : X) → IsIn xs x → q x ≡ true → IsIn (filter q xs) x

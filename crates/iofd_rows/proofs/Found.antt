@@ -1,9 +1,10 @@
 -- What is found in a list after rows came or went, and what holds of each row.
-use Rattle.std.proofs.Common.{◌≡◌, Bool, true, false, cond, ◌&&◌, ◌||◌, not, Some, List, [], ◌∷◌, map, refl, ap}
+use Rattle.std.proofs.Common.{◌≡◌, Bool, true, false, cond, ◌&&◌, ◌||◌, not, Some, List, [], ◌∷◌, map, refl}
 use Rattle.std.specs.List.{filter, find, list_all, list_any}
 use Rattle.iofd_words.specs.Objects.{comes_before, with_object}
 use Rattle.iofd_words.specs.declared.rows.Object.{Object}
 use Rattle.iofd_rows.proofs.Bools.{or_false, and_true, both_true}
+use Rattle.iofd_rows.proofs.Inserted.{find-inserted}
 
 -- ---- each row
 
@@ -36,14 +37,7 @@ all_map p q h (x ∷ xs) weaker all =
 
 pub find-with_object : (p : Object → Bool) (object : Object) (objects : List Object) → p object ≡ false
     → find p (with_object object objects) ≡ find p objects
-find-with_object p object [] other = rw other refl
-find-with_object p object (o ∷ objects) other =
-    by_order (comes_before object o) (find-with_object p object objects other)
-  where
-    by_order : (b : Bool) → find p (with_object object objects) ≡ find p objects
-        → find p (cond b (object ∷ o ∷ objects) (o ∷ with_object object objects)) ≡ find p (o ∷ objects)
-    by_order true rest = rw other refl
-    by_order false rest = ap (cond (p o) (Some o)) rest
+find-with_object = find-inserted comes_before
 
 -- rows that don't pass may go
 pub find-filter : {X : Type 0} (p q : X → Bool) (xs : List X) → list_any (λ x. p x && not (q x)) xs ≡ false

@@ -7,6 +7,7 @@ pub mod Contained
 pub mod Each
 pub mod Found
 pub mod InSpaces
+pub mod Inserted
 pub mod ListTests
 pub mod Moves
 pub mod Named

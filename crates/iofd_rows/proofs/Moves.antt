@@ -8,7 +8,8 @@ use Rattle.std.proofs.lemmas.Bool.{eqb-true}
 use Rattle.std.proofs.lemmas.Bool.Decides.{nat_tests}
 use Rattle.iofd_words.specs.Areas.{all_paid, is_of, is_touched, leaving, paid, touched_tries, tried, with_area}
 use Rattle.iofd_words.specs.Areas.{with_leaving, with_phase, with_tries}
-use Rattle.iofd_words.specs.Attachments.{attachment_of, devices_of, ioas_of, is_attached_to, with_attachment}
+use Rattle.iofd_words.specs.Attachments.{attachment_of, devices_of, has_lower_device, ioas_of, is_attached_to}
+use Rattle.iofd_words.specs.Attachments.{with_attachment}
 use Rattle.iofd_rows.specs.Debts.{attach_once, debtors_of}
 use Rattle.iofd_words.specs.Objects.{is_access, is_object, kind_of, with_access, with_object}
 use Rattle.iofd_words.specs.declared.event.UnmapRequest.{UnmapRequest}
@@ -23,8 +24,9 @@ use Rattle.iofd_words.specs.declared.rows.ObjectKind.TheVariants as kind
 use Rattle.iofd_words.specs.declared.rows.Phase.{Phase}
 use Rattle.iofd_words.specs.declared.rows.Phase.TheVariants.{Live, Leaving}
 use Rattle.iofd_rows.proofs.Accesses.{in_reattached, kind_reattached}
-use Rattle.iofd_rows.proofs.Bools.{or_false, and_true, not_true}
-use Rattle.iofd_rows.proofs.Each.{IsIn, in_filter, in_found, in_map, in_with_area, in_with_object, of_any}
+use Rattle.iofd_rows.proofs.Bools.{or_false, and_true, both_false, not_true}
+use Rattle.iofd_rows.proofs.Each.{IsIn, in_filter, in_found, in_map, in_with_area, in_with_object, inserted_in, of_any}
+use Rattle.iofd_rows.proofs.Inserted.{any-inserted}
 use Rattle.iofd_rows.proofs.Named.{file_is, id_is, kind_before}
 use Rattle.iofd_rows.proofs.Owed.{EachOwed, HasTable, IsDebtor, IsSpace, debtor_of}
 
@@ -84,28 +86,15 @@ once_filter q (a ∷ attachments) once =
     kept true here rest = rw (here, rest) refl
     kept false here rest = rest
 
-again_with : (attachment : Attachment) (attachments : List Attachment) (device : DeviceNo)
-    → eqb attachment.device.0 device.0 ≡ false → again device attachments ≡ false
-    → again device (with_attachment attachment attachments) ≡ false
-again_with attachment [] device differ none = rw differ refl
-again_with attachment (a ∷ attachments) device differ none =
-    let parts = or_false (eqb a.device.0 device.0) (again device attachments) none in
-    by_order _ parts.0 (again_with attachment attachments device differ parts.1)
-  where
-    by_order : (b : Bool) → eqb a.device.0 device.0 ≡ false
-        → again device (with_attachment attachment attachments) ≡ false
-        → again device (cond b (attachment ∷ a ∷ attachments) (a ∷ with_attachment attachment attachments)) ≡ false
-    by_order true here rest = rw differ none
-    by_order false here rest = rw here rest
-
 pub once_with : (attachment : Attachment) (attachments : List Attachment) → again attachment.device attachments ≡ false
     → attach_once attachments ≡ true → attach_once (with_attachment attachment attachments) ≡ true
 once_with attachment [] none once = refl
 once_with attachment (a ∷ attachments) none once =
     let nones = or_false (eqb a.device.0 attachment.device.0) (again attachment.device attachments) none in
     let parts = and_true (not (again a.device attachments)) (attach_once attachments) once in
-    let others = again_with attachment attachments a.device (eqb_flipped attachment.device.0 a.device.0
-    ∙ nones.0) (not_true _ parts.0) in
+    let others : again a.device (with_attachment attachment attachments) ≡ false =
+    any-inserted has_lower_device (λ (b : Attachment). eqb b.device.0 a.device.0) attachment attachments
+    ∙ both_false _ _ (eqb_flipped attachment.device.0 a.device.0 ∙ nones.0) (not_true _ parts.0) in
     by_order _ others (once_with attachment attachments nones.1 parts.1)
   where
     by_order : (b : Bool) → again a.device (with_attachment attachment attachments) ≡ false
@@ -114,19 +103,6 @@ once_with attachment (a ∷ attachments) none once =
     by_order true here rest = rw (none, once) refl
     by_order false here rest = rw (here, rest) refl
 
-with_in : (attachment : Attachment) (attachments : List Attachment) (x : Attachment)
-    → (attachment ≡ x) ⊎ IsIn attachments x → IsIn (with_attachment attachment attachments) x
-with_in attachment [] x within = within
-with_in attachment (a ∷ attachments) x within = by_order _ within (λ w. with_in attachment attachments x w)
-  where
-    by_order : (b : Bool) → (attachment ≡ x) ⊎ ((a ≡ x) ⊎ IsIn attachments x)
-        → ((attachment ≡ x) ⊎ IsIn attachments x → IsIn (with_attachment attachment attachments) x)
-        → IsIn (cond b (attachment ∷ a ∷ attachments) (a ∷ with_attachment attachment attachments)) x
-    by_order true within rest = within
-    by_order false (inl new) rest = inr (rest (inl new))
-    by_order false (inr (inl same)) rest = inl same
-    by_order false (inr (inr later)) rest = inr (rest (inr later))
-
 -- who is attached stays attached where one more is
 pub found_with : (attachment : Attachment) (attachments : List Attachment) (device : DeviceNo) (a : Attachment)
     → attach_once (with_attachment attachment attachments) ≡ true → attachment_of attachments device ≡ Some a
@@ -134,7 +110,8 @@ pub found_with : (attachment : Attachment) (attachments : List Attachment) (devi
 found_with attachment attachments device a once found =
     let parts = in_found (λ (a : Attachment). eqb a.device.0 device.0) attachments a found in
     rw (← device_is a.device device parts.1)
-    (found_once (with_attachment attachment attachments) a once (with_in attachment attachments a (inr parts.0)))
+    (found_once (with_attachment attachment attachments) a once
+    (inserted_in has_lower_device attachment attachments a (inr parts.0)))
 
 -- ---- debts that change
 

@@ -5,14 +5,15 @@ use Rattle.std.specs.List.{filter, find, list_any}
 use Rattle.std.proofs.lemmas.Bool.{eqb-true}
 use Rattle.std.proofs.lemmas.Bool.Decides.{nat_tests}
 use Rattle.iofd_rows.specs.Ids.{have_own_ids}
-use Rattle.iofd_words.specs.Objects.{is_object, kind_of, with_object}
+use Rattle.iofd_words.specs.Objects.{comes_before, is_object, kind_of, with_object}
 use Rattle.iofd_words.specs.declared.numbers.FileNo.{FileNo}
 use Rattle.iofd_words.specs.declared.numbers.ObjId.{ObjId}
 use Rattle.iofd_words.specs.declared.rows.Object.{Object}
 use Rattle.iofd_words.specs.declared.rows.ObjectKind.{ObjectKind}
 use Rattle.iofd_rows.proofs.Bools.{and_true, not_true}
-use Rattle.iofd_rows.proofs.Each.{IsIn, in_found, found_kept, found_new, of_any}
+use Rattle.iofd_rows.proofs.Each.{IsIn, in_found, found_kept, of_any}
 use Rattle.iofd_rows.proofs.Found.{find-with_object}
+use Rattle.iofd_rows.proofs.Inserted.{found-inserted}
 
 -- ---- options
 
@@ -90,7 +91,8 @@ kind_before object objects file id k free found = by_name (is_object file id obj
 pub kind_new : (object : Object) (objects : List Object) → list_any (is_object object.file object.id) objects ≡ false
     → kind_of (with_object object objects) object.file object.id ≡ Some object.kind
 kind_new object objects free =
-    ap kind_from (found_new (is_object object.file object.id) object objects (named object object refl refl) free)
+    ap kind_from (found-inserted comes_before (is_object object.file object.id) object objects
+    (named object object refl refl) free)
 
 -- ---- unique ids
 

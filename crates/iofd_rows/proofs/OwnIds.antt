@@ -10,7 +10,8 @@ use Rattle.iofd_words.specs.declared.numbers.FileNo.{FileNo}
 use Rattle.iofd_words.specs.declared.numbers.ObjId.{ObjId}
 use Rattle.iofd_words.specs.declared.rows.Object.{Object}
 use Rattle.iofd_words.specs.declared.rows.ObjectKind.{ObjectKind}
-use Rattle.iofd_rows.proofs.Bools.{or_false, and_true, both_false, not_true, swapped}
+use Rattle.iofd_rows.proofs.Bools.{or_false, and_true, both_false, not_true}
+use Rattle.iofd_rows.proofs.Inserted.{any-inserted}
 
 -- ---- an unused id
 
@@ -36,20 +37,6 @@ unused objects file id fresh =
 
 -- ---- one more object
 
-any-with_object : (x : Object) (objects : List Object) (file : FileNo) (id : ObjId)
-    → list_any (is_object file id) (with_object x objects) ≡ (is_object file id x
-    || list_any (is_object file id) objects)
-any-with_object x [] file id = refl
-any-with_object x (o ∷ objects) file id = added (comes_before x o) (any-with_object x objects file id)
-  where
-    added : (b : Bool) → list_any (is_object file id) (with_object x objects) ≡ (is_object file id x
-        || list_any (is_object file id) objects)
-        → list_any (is_object file id) (cond b (x ∷ o ∷ objects) (o ∷ with_object x objects)) ≡ (is_object file id x
-        || list_any (is_object file id) (o ∷ objects))
-    added true rest = refl
-    added false rest =
-        rw rest (swapped (is_object file id x) (is_object file id o) (list_any (is_object file id) objects))
-
 same_both : (a b : Object) → is_object a.file a.id b ≡ is_object b.file b.id a
 same_both a b = grind (arith, nat_tests)
 
@@ -60,7 +47,8 @@ own_ids-with_object x (o ∷ objects) free own =
     let frees = or_false (is_object x.file x.id o) (list_any (is_object x.file x.id) objects) free in
     let owns = and_true (not (list_any (is_object o.file o.id) objects)) (have_own_ids objects) own in
     let others : list_any (is_object o.file o.id) (with_object x objects) ≡ false =
-    any-with_object x objects o.file o.id ∙ both_false _ _ (same_both o x ∙ frees.0) (not_true _ owns.0) in
+    any-inserted comes_before (is_object o.file o.id) x objects
+    ∙ both_false _ _ (same_both o x ∙ frees.0) (not_true _ owns.0) in
     added (comes_before x o) (rw (free, own) refl) (rw (others, own_ids-with_object x objects frees.1 owns.1) refl)
   where
     added : (b : Bool) → have_own_ids (x ∷ o ∷ objects) ≡ true → have_own_ids (o ∷ with_object x objects) ≡ true

@@ -1,10 +1,10 @@
 -- Each memory object has an area, and only areas of one file share it.
-use Rattle.std.proofs.Common.{◌≡◌, ℕ, Bool, true, false, cond, ◌&&◌, ◌||◌, not, eqb, ltb, List, [], ◌∷◌, ◌++◌, map}
+use Rattle.std.proofs.Common.{◌≡◌, ℕ, Bool, true, false, ◌&&◌, ◌||◌, not, eqb, List, [], ◌∷◌, ◌++◌, map}
 use Rattle.std.proofs.Common.{refl, ap, ◌∙◌, arith}
 use Rattle.std.specs.List.{filter, list_all, list_any}
 use Rattle.std.proofs.lemmas.Bool.Decides.{nat_tests}
 use Rattle.std.proofs.lemmas.List.Folds.{list_all-append}
-use Rattle.iofd_words.specs.Areas.{is_of, with_area, with_phase}
+use Rattle.iofd_words.specs.Areas.{lies_before, with_area, with_phase}
 use Rattle.iofd_rows.specs.Pinned.{share_in_file, share_in_files}
 use Rattle.iofd_words.specs.declared.numbers.FileNo.{FileNo}
 use Rattle.iofd_words.specs.declared.rows.Area.{Area}
@@ -13,6 +13,7 @@ use Rattle.iofd_words.specs.declared.rows.Phase.{Phase}
 use Rattle.iofd_rows.proofs.Bools.{and_true, both_true, or_false}
 use Rattle.iofd_rows.proofs.Each.{of_all, of_each}
 use Rattle.iofd_rows.proofs.Found.{all_filter, all_map, all_weaker}
+use Rattle.iofd_rows.proofs.Inserted.{all-inserted}
 use Rattle.iofd_rows.proofs.ListTests.{all_pass, any-filter, any_of_all, any_weaker, or_left, or_right}
 use Rattle.iofd_rows.proofs.PageLists.{any-with_area}
 
@@ -58,16 +59,7 @@ all_of_file areas file number shared has =
 
 pub all-with_area : (p : Area → Bool) (x : Area) (areas : List Area) → p x ≡ true → list_all p areas ≡ true
     → list_all p (with_area x areas) ≡ true
-all-with_area p x [] here all = rw here refl
-all-with_area p x (a ∷ areas) here all =
-    let parts = and_true (p a) (list_all p areas) all in
-    by_order (is_of x.file x.ioas a && ltb x.span.first a.span.first) (both_true _ _ here all)
-    (both_true _ _ parts.0 (all-with_area p x areas here parts.1))
-  where
-    by_order : (b : Bool) → list_all p (x ∷ a ∷ areas) ≡ true → list_all p (a ∷ with_area x areas) ≡ true
-        → list_all p (cond b (x ∷ a ∷ areas) (a ∷ with_area x areas)) ≡ true
-    by_order true first later = first
-    by_order false first later = later
+all-with_area = all-inserted lies_before
 
 -- the memory objects that stand have areas still
 pub areas_still : (x : Area) (areas : List Area) (memory : List MemoryObject) → have_areas areas memory ≡ true

@@ -5,12 +5,13 @@ use Rattle.std.specs.List.{filter, flat_map, list_all, list_any, range_with_len}
 use Rattle.std.proofs.lemmas.Bool.Decides.{nat_tests}
 use Rattle.std.proofs.lemmas.Bool.{eqb-true}
 use Rattle.std.proofs.lemmas.List.Folds.{list_any-append}
-use Rattle.iofd_words.specs.Areas.{is_of, with_area}
+use Rattle.iofd_words.specs.Areas.{lies_before, with_area}
 use Rattle.iofd_words.specs.Objects.{has_hwpt}
 use Rattle.iofd_words.specs.Pins.{ObjectPage, is_page, area_pages, pages_from}
 use Rattle.iofd_words.specs.declared.rows.Area.{Area}
 use Rattle.iofd_words.specs.declared.rows.Object.{Object}
-use Rattle.iofd_rows.proofs.Bools.{and_true, both_true, or_false, swapped}
+use Rattle.iofd_rows.proofs.Bools.{and_true, both_true, or_false}
+use Rattle.iofd_rows.proofs.Inserted.{any-inserted}
 use Rattle.iofd_rows.proofs.ListTests.{alike, any-filter, any_weaker, or_left, or_right}
 
 -- ---- one page
@@ -122,14 +123,7 @@ memory_of_page area page within = memory_of_each area.memory _ page within
 
 pub any-with_area : (p : Area → Bool) (x : Area) (areas : List Area)
     → list_any p (with_area x areas) ≡ (p x || list_any p areas)
-any-with_area p x [] = refl
-any-with_area p x (a ∷ areas) =
-    by_order (is_of x.file x.ioas a && ltb x.span.first a.span.first) (any-with_area p x areas)
-  where
-    by_order : (b : Bool) → list_any p (with_area x areas) ≡ (p x || list_any p areas)
-        → list_any p (cond b (x ∷ a ∷ areas) (a ∷ with_area x areas)) ≡ (p x || list_any p (a ∷ areas))
-    by_order true rest = refl
-    by_order false rest = rw rest (swapped (p x) (p a) (list_any p areas))
+any-with_area = any-inserted lies_before
 
 -- ---- what a filter keeps, as an equation
 

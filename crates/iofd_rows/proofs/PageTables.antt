@@ -1,6 +1,6 @@
 -- Which address spaces have a page table, after objects came or went.
-use Rattle.std.proofs.Common.{◌≡◌, Bool, true, false, cond, ◌&&◌, ◌||◌, not, eqb, List, [], ◌∷◌, refl, ap, sym, ◌∙◌}
-use Rattle.std.specs.List.{filter, list_any}
+use Rattle.std.proofs.Common.{◌≡◌, Bool, true, false, ◌&&◌, ◌||◌, not, eqb, List, refl, ap, sym, ◌∙◌}
+use Rattle.std.specs.List.{filter}
 use Rattle.std.proofs.lemmas.Bool.{eqb-true}
 use Rattle.iofd_words.specs.Objects.{comes_before, has_hwpt, is_bound_device, is_hwpt_over, is_object, with_object}
 use Rattle.iofd_words.specs.Objects.{without_device_object}
@@ -9,25 +9,16 @@ use Rattle.iofd_words.specs.declared.numbers.ObjId.{ObjId}
 use Rattle.iofd_words.specs.declared.rows.Object.{Object}
 use Rattle.iofd_words.specs.declared.rows.ObjectKind.{ObjectKind}
 use Rattle.iofd_words.specs.declared.rows.ObjectKind.TheVariants as kind
-use Rattle.iofd_rows.proofs.Bools.{and_true, both_true, swapped}
+use Rattle.iofd_rows.proofs.Bools.{and_true, both_true}
+use Rattle.iofd_rows.proofs.Inserted.{any-inserted}
 use Rattle.iofd_rows.proofs.ListTests.{alike, any-filter, any_weaker}
-
-any-with_object : (p : Object → Bool) (x : Object) (objects : List Object)
-    → list_any p (with_object x objects) ≡ (p x || list_any p objects)
-any-with_object p x [] = refl
-any-with_object p x (o ∷ objects) = by_order (comes_before x o) (any-with_object p x objects)
-  where
-    by_order : (b : Bool) → list_any p (with_object x objects) ≡ (p x || list_any p objects)
-        → list_any p (cond b (x ∷ o ∷ objects) (o ∷ with_object x objects)) ≡ (p x || list_any p (o ∷ objects))
-    by_order true rest = refl
-    by_order false rest = rw rest (swapped (p x) (p o) (list_any p objects))
 
 -- one more object
 pub hwpt-with_object : (x : Object) (objects : List Object) (file : FileNo) (ioas : ObjId)
     → has_hwpt (with_object x objects) file ioas ≡ ((eqb x.file.0 file.0 && is_hwpt_over ioas x.kind)
     || has_hwpt objects file ioas)
 hwpt-with_object x objects file ioas =
-    any-with_object (λ (o : Object). eqb o.file.0 file.0 && is_hwpt_over ioas o.kind) x objects
+    any-inserted comes_before (λ (o : Object). eqb o.file.0 file.0 && is_hwpt_over ioas o.kind) x objects
 
 -- one that is no page table
 pub same_hwpt : (x : Object) (objects : List Object) (file : FileNo) (ioas : ObjId) → is_hwpt_over ioas x.kind ≡ false

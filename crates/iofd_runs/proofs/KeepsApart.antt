@@ -6,7 +6,7 @@ use Rattle.std.specs.List.{filter}
 use Rattle.std.proofs.lemmas.Bool.Decides.{nat_tests}
 use Rattle.iofd_words.specs.After.{changed, mapped_area}
 use Rattle.iofd_words.specs.Answers.{Answers}
-use Rattle.iofd_words.specs.Areas.{areas_meet, areas_of, is_of, meets_area, with_area, with_phase}
+use Rattle.iofd_words.specs.Areas.{areas_meet, areas_of, is_of, lies_before, meets_area, with_area, with_phase}
 use Rattle.iofd_words.specs.Bounds.{Bounds}
 use Rattle.iofd_words.specs.Checks.{refusal}
 use Rattle.iofd_runs.specs.Apart.{are_apart}
@@ -18,7 +18,9 @@ use Rattle.iofd_words.specs.declared.numbers.ObjId.{ObjId}
 use Rattle.iofd_words.specs.declared.reply.Reply.{Reply}
 use Rattle.iofd_words.specs.declared.rows.Area.{Area}
 use Rattle.iofd_words.specs.declared.rows.Phase.{Phase}
-use Rattle.iofd_rows.proofs.Bools.{or_false, and_true, both_false, not_true, swapped}
+use Rattle.iofd_rows.proofs.Bools.{or_false, and_true, both_false, not_true}
+use Rattle.iofd_rows.proofs.Inserted.{any-inserted}
+use Rattle.iofd_rows.proofs.ListTests.{any-filter}
 use Rattle.iofd_runs.proofs.Moves.{AreasMove, SameAreas, FewerAreas, OtherPhases, OneArea, changed_moves}
 
 -- a and b are of one address space, and have an address in common
@@ -44,19 +46,11 @@ meets_first a areas file ioas span = by_test (is_of file ioas a)
 meets_area-with_area : (x : Area) (areas : List Area) (file : FileNo) (ioas : ObjId) (span : Bounds)
     → meets_area (with_area x areas) file ioas span ≡ ((is_of file ioas x && meets x.span span)
     || meets_area areas file ioas span)
-meets_area-with_area x [] file ioas span = meets_first x [] file ioas span
-meets_area-with_area x (a ∷ areas) file ioas span =
-    added (is_of x.file x.ioas a && ltb x.span.first a.span.first) (meets_area-with_area x areas file ioas span)
-  where
-    added : (b : Bool) → meets_area (with_area x areas) file ioas span ≡ ((is_of file ioas x && meets x.span span)
-        || meets_area areas file ioas span) → meets_area (cond b (x ∷ a ∷ areas) (a ∷ with_area x areas)) file ioas
-        span ≡ ((is_of file ioas x && meets x.span span) || meets_area (a ∷ areas) file ioas span)
-    added true rest = meets_first x (a ∷ areas) file ioas span
-    added false rest =
-        meets_first a (with_area x areas) file ioas span
-        ∙ ap (λ b. (is_of file ioas a && meets a.span span) || b) rest
-        ∙ swapped (is_of file ioas x && meets x.span span) (is_of file ioas a && meets a.span span) _
-        ∙ ap (λ b. (is_of file ioas x && meets x.span span) || b) (sym (meets_first a areas file ioas span))
+meets_area-with_area x areas file ioas span =
+    any-filter (λ (a : Area). meets a.span span) (is_of file ioas) (with_area x areas)
+    ∙ any-inserted lies_before (λ (a : Area). is_of file ioas a && meets a.span span) x areas
+    ∙ ap (λ b. (is_of file ioas x && meets x.span span) || b)
+    (sym (any-filter (λ (a : Area). meets a.span span) (is_of file ioas) areas))
 
 pub are_apart-with_area : (x : Area) (areas : List Area) → meets_area areas x.file x.ioas x.span ≡ false
     → are_apart areas ≡ true → are_apart (with_area x areas) ≡ true

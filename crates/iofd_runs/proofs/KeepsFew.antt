@@ -6,6 +6,7 @@ use Rattle.std.proofs.lemmas.Bool.Decides.{nat_tests}
 use Rattle.std.proofs.lemmas.List.Sums.{length-filter}
 use Rattle.iofd_rows.proofs.Accesses.{count_reattached}
 use Rattle.iofd_rows.proofs.Bools.{and_true}
+use Rattle.iofd_rows.proofs.Inserted.{count-inserted}
 use Rattle.iofd_rows.proofs.Named.{file_is, id_is}
 use Rattle.iofd_rows.proofs.PageCounts.{count-cons}
 use Rattle.iofd_runs.proofs.Moves.{AreasMove, Fewer, FewerAreas, More, ObjectsMove, OneArea, OtherPhases, Reattached}
@@ -13,9 +14,9 @@ use Rattle.iofd_runs.proofs.Moves.{Same, SameAreas, changed_moves}
 use Rattle.iofd_runs.specs.Few.{RowsFew}
 use Rattle.iofd_words.specs.After.{changed, mapped_area}
 use Rattle.iofd_words.specs.Answers.{Answers}
-use Rattle.iofd_words.specs.Areas.{areas_of, is_of, with_area, with_phase}
+use Rattle.iofd_words.specs.Areas.{areas_of, is_of, lies_before, with_phase}
 use Rattle.iofd_words.specs.Checks.{refusal}
-use Rattle.iofd_words.specs.Objects.{comes_before, is_full, objects_of, with_object}
+use Rattle.iofd_words.specs.Objects.{comes_before, is_full, objects_of}
 use Rattle.iofd_words.specs.Settings.{Settings}
 use Rattle.iofd_words.specs.Tables.{with_tables}
 use Rattle.iofd_words.specs.World.{World, opening}
@@ -42,34 +43,6 @@ count_fewer p q (x ∷ xs) = rw (count-cons p x xs) (by_test (q x) (count_fewer 
     by_test true rest = rw (count-cons p x (filter q xs)) (omega (arith, rest))
     by_test false rest = omega (arith, rest)
 
-one_object : (p : Object → Bool) (object : Object) (objects : List Object)
-    → count_by p (with_object object objects) ≡ cond (p object) 1 0 + count_by p objects
-one_object p object [] = count-cons p object []
-one_object p object (o ∷ objects) = by_order (comes_before object o) (one_object p object objects)
-  where
-    by_order : (b : Bool) → count_by p (with_object object objects) ≡ cond (p object) 1 0 + count_by p objects
-        → count_by p (cond b (object ∷ o ∷ objects) (o ∷ with_object object objects))
-        ≡ cond (p object) 1 0 + count_by p (o ∷ objects)
-    by_order true rest = count-cons p object (o ∷ objects)
-    by_order false rest =
-        let here = count-cons p o (with_object object objects) in
-        let before = count-cons p o objects in
-        omega (arith, rest, here, before)
-
-one_area : (p : Area → Bool) (area : Area) (areas : List Area)
-    → count_by p (with_area area areas) ≡ cond (p area) 1 0 + count_by p areas
-one_area p area [] = count-cons p area []
-one_area p area (a ∷ areas) = by_order _ (one_area p area areas)
-  where
-    by_order : (b : Bool) → count_by p (with_area area areas) ≡ cond (p area) 1 0 + count_by p areas
-        → count_by p (cond b (area ∷ a ∷ areas) (a ∷ with_area area areas))
-        ≡ cond (p area) 1 0 + count_by p (a ∷ areas)
-    by_order true rest = count-cons p area (a ∷ areas)
-    by_order false rest =
-        let here = count-cons p a (with_area area areas) in
-        let before = count-cons p a areas in
-        omega (arith, rest, here, before)
-
 same_spaces : (file : FileNo) (ioas : ObjId) (phase : Area → Phase) (areas : List Area)
     → count_by (is_of file ioas) (map (λ (a : Area). with_phase (phase a) a) areas) ≡ count_by (is_of file ioas) areas
 same_spaces file ioas phase [] = refl
@@ -95,7 +68,7 @@ few_objects file w e answer new (Reattached own id attached is) none few =
     rw is (subst (λ (n : ℕ). n ≤ 65535)
     (sym (count_reattached own id attached (of_file file) (λ o before after kind. refl) w.objects)) few)
 few_objects file w e answer new (More object fresh admitted makes is) none few =
-    rw (is, one_object (of_file file) object w.objects) (by_file (of_file file object) refl)
+    rw (is, count-inserted comes_before (of_file file) object w.objects) (by_file (of_file file object) refl)
   where
     by_file : (b : Bool) → eqb object.file.0 file.0 ≡ b → cond b 1 0 + count_by (of_file file) w.objects ≤ 65535
     by_file false other = omega (arith, few)
@@ -115,7 +88,7 @@ few_areas file ioas at w e answer new (FewerAreas goes by is left free) none few
 few_areas file ioas at w e answer new (OtherPhases phase lives is same) none few =
     rw (is, same_spaces file ioas phase w.areas) few
 few_areas file ioas at w e answer new (OneArea number own request iova passed lies makes alike is under) none few =
-    rw (is, one_area (is_of file ioas) (mapped_area number own request iova) w.areas)
+    rw (is, count-inserted lies_before (is_of file ioas) (mapped_area number own request iova) w.areas)
     (by_space (is_of file ioas (mapped_area number own request iova)) refl)
   where
     by_space : (b : Bool) → (eqb own.0 file.0 && eqb request.ioas.0 ioas.0) ≡ b

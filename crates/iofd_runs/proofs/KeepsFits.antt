@@ -6,7 +6,7 @@ use Rattle.std.specs.List.{filter, list_all, find, filter_map, list_any}
 use Rattle.std.proofs.lemmas.Bool.Decides.{nat_tests}
 use Rattle.iofd_words.specs.After.{changed, mapped_area, settle}
 use Rattle.iofd_words.specs.Answers.{Answers}
-use Rattle.iofd_words.specs.Attachments.{attachment_of, with_attachment}
+use Rattle.iofd_words.specs.Attachments.{attachment_of, has_lower_device, with_attachment}
 use Rattle.iofd_words.specs.Checks.{refusal}
 use Rattle.iofd_runs.specs.Fits.{RowsFit, begins_at_page, devices_rise, has_rights, is_of_pages, is_known_device}
 use Rattle.iofd_words.specs.Frames.{frame_at}
@@ -28,12 +28,14 @@ use Rattle.iofd_words.specs.declared.rows.Attachment.{Attachment}
 use Rattle.iofd_words.specs.declared.rows.MemoryObject.{MemoryObject}
 use Rattle.iofd_words.specs.declared.rows.Pin.{Pin}
 use Rattle.iofd_words.specs.declared.rows.UserPage.{UserPage}
-use Rattle.iofd_words.specs.Files.{is_open}
+use Rattle.iofd_words.specs.Files.{is_device, is_open}
+use Rattle.iofd_words.specs.Objects.{comes_before}
 use Rattle.iofd_rows.proofs.Bools.{and_true, both_true}
 use Rattle.iofd_rows.proofs.Each.{of_each}
 use Rattle.iofd_rows.proofs.Found.{all_filter, found_passes}
+use Rattle.iofd_rows.proofs.Inserted.{all-inserted}
 use Rattle.iofd_rows.proofs.Accesses.{all_reattached}
-use Rattle.iofd_runs.proofs.Known.{attached_one, bound_known, is_known, known_closed, known_one, are_attached}
+use Rattle.iofd_runs.proofs.Known.{bound_known, is_known, known_closed, are_attached}
 use Rattle.iofd_runs.proofs.Moves.{AttachmentsMove, Closes, Fewer, FewerAttachments, FewerPages, FilesMove, MemoryMoves}
 use Rattle.iofd_runs.proofs.Moves.{MemoryUnder, More, NewMemory, ObjectsMove, OneAttachment, OnePage, PinsMove, Same}
 use Rattle.iofd_runs.proofs.Moves.{SameAttachments, SameMemory, SamePins, Settled, SharedMemory, StayOpen, Written}
@@ -72,22 +74,6 @@ one_pages at w e file request iova number memory none passed pages (SharedMemory
 
 -- ---- one more attachment
 
-above : (device : ℕ) (x : Attachment) (attachments : List Attachment) → ltb device x.device.0 ≡ true
-    → list_all (λ (b : Attachment). ltb device b.device.0) attachments ≡ true
-    → list_all (λ (b : Attachment). ltb device b.device.0) (with_attachment x attachments) ≡ true
-above device x [] here all = both_true _ _ here refl
-above device x (a ∷ attachments) here all =
-    let parts =
-    and_true (ltb device a.device.0) (list_all (λ (b : Attachment). ltb device b.device.0) attachments) all in
-    added (ltb x.device.0 a.device.0) parts.0 (above device x attachments here parts.1)
-  where
-    added : (b : Bool) → ltb device a.device.0 ≡ true
-        → list_all (λ (b : Attachment). ltb device b.device.0) (with_attachment x attachments) ≡ true
-        → list_all (λ (b : Attachment). ltb device b.device.0)
-        (cond b (x ∷ a ∷ attachments) (a ∷ with_attachment x attachments)) ≡ true
-    added true first rest = both_true _ _ here all
-    added false first rest = both_true _ _ first rest
-
 further : (low : ℕ) (high : ℕ) (attachments : List Attachment) → ltb low high ≡ true
     → list_all (λ (b : Attachment). ltb high b.device.0) attachments ≡ true
     → list_all (λ (b : Attachment). ltb low b.device.0) attachments ≡ true
@@ -117,7 +103,8 @@ rise-with_attachment x (a ∷ attachments) free rise =
     by_tests false true less is free above_a rest later = cc
     by_tests false false less is free above_a rest later =
         let higher : ltb a.device.0 x.device.0 ≡ true = search (less, is, arith, nat_tests) in
-        both_true _ _ (above a.device.0 x attachments higher above_a) (later free)
+        both_true _ _ (all-inserted has_lower_device (λ (b : Attachment). ltb a.device.0 b.device.0) x attachments
+        higher above_a) (later free)
 
 rise-filter : (p : Attachment → Bool) (attachments : List Attachment) → devices_rise attachments ≡ true
     → devices_rise (filter p attachments) ≡ true
@@ -208,7 +195,7 @@ module _ {A : Type 0} (at : ℕ) (w : World) (e : Event A) (answer : Reply) (non
   attachments_known new (SameAttachments is) = rw is fits.attached
   attachments_known new (FewerAttachments stays is) = rw is (all_filter _ stays w.attachments fits.attached)
   attachments_known new (OneAttachment a bound binding still of_file free served is) =
-      rw is (attached_one w.settings a w.attachments
+      rw is (all-inserted has_lower_device (λ (b : Attachment). is_device w.settings b.device) a w.attachments
       (bound_known w.settings w.closed w.objects a.device bound fits.known binding).1 fits.attached)
 
   pages_fit : (new : World) → MemoryMoves w e answer new
@@ -240,8 +227,8 @@ module _ {A : Type 0} (at : ℕ) (w : World) (e : Event A) (answer : Reply) (non
       (λ o before after kind. ap (λ k. is_open w.settings w.closed o.file && is_known_device w.settings k) (sym kind))
       w.objects ∙ fits.known)
   objects_known new (More object fresh admitted makes is) (StayOpen closed) =
-      rw (closed, is) (known_one (is_known w.settings w.closed) object w.objects ((admitted none).known fits.known)
-      fits.known)
+      rw (closed, is) (all-inserted comes_before (is_known w.settings w.closed) object w.objects
+      ((admitted none).known fits.known) fits.known)
 
   pub keeps_fit : RowsFit (changed at w e answer)
   keeps_fit =

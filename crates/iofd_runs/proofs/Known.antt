@@ -1,15 +1,14 @@
 -- Objects are of open files, and the devices that are bound or attached are of the settings.
 use Rattle.std.proofs.Common.{◌≡◌, ℕ, Bool, true, false, ◌&&◌, ◌||◌, not, eqb, is_some, List, [], ◌∷◌, ◌++◌, Some, None}
-use Rattle.std.proofs.Common.{refl, sym, ap, ◌∙◌, arith, ⊎_elim}
+use Rattle.std.proofs.Common.{refl, sym, ap, ◌∙◌, arith}
 use Rattle.std.specs.List.{filter, list_all, list_any}
 use Rattle.std.proofs.lemmas.Bool.{eqb-true}
 use Rattle.std.proofs.lemmas.Bool.Decides.{nat_tests}
-use Rattle.iofd_words.specs.Attachments.{with_attachment}
 use Rattle.iofd_words.specs.Checks.{bind_checks, ioas_alloc_checks}
 use Rattle.iofd_words.specs.Files.{is_device, is_open, numbered, user_of}
 use Rattle.iofd_runs.specs.Fits.{is_known_device}
 use Rattle.iofd_words.specs.FirstTrue.{first_true}
-use Rattle.iofd_words.specs.Objects.{binding_of, is_bound_as, with_object}
+use Rattle.iofd_words.specs.Objects.{binding_of, is_bound_as}
 use Rattle.iofd_words.specs.Settings.{Settings}
 use Rattle.iofd_words.specs.View.{view}
 use Rattle.iofd_words.specs.World.{World}
@@ -20,7 +19,7 @@ use Rattle.iofd_words.specs.declared.rows.Object.{Object}
 use Rattle.iofd_words.specs.declared.rows.ObjectKind.{ObjectKind}
 use Rattle.iofd_words.specs.declared.rows.ObjectKind.TheVariants as kind
 use Rattle.iofd_rows.proofs.Bools.{and_true, both_false, both_true, not_false, not_true}
-use Rattle.iofd_rows.proofs.Each.{in_filter, in_found, in_with_attachment, in_with_object, of_all, of_each, IsIn}
+use Rattle.iofd_rows.proofs.Each.{in_filter, in_found, of_all, of_each}
 use Rattle.iofd_runs.proofs.NotRefused.{alloc_passed, bind_passed}
 
 -- the object is of an open file, and a bound device is one of the settings
@@ -29,27 +28,6 @@ is_known settings closed object = is_open settings closed object.file && is_know
 
 abbrev pub are_attached : Settings → List Attachment → Bool
 are_attached settings attachments = list_all (λ (a : Attachment). is_device settings a.device) attachments
-
--- ---- one more row
-
-pub known_one : (p : Object → Bool) (object : Object) (objects : List Object) → p object ≡ true
-    → list_all p objects ≡ true → list_all p (with_object object objects) ≡ true
-known_one p object objects here all =
-    of_all p (with_object object objects) (λ x within.
-    ⊎_elim
-    (λ (new : object ≡ x). ap p (sym new) ∙ here)
-    (λ (old : IsIn objects x). of_each p objects x all old)
-    (in_with_object object objects x within))
-
-pub attached_one : (settings : Settings) (a : Attachment) (attachments : List Attachment)
-    → is_device settings a.device ≡ true → are_attached settings attachments ≡ true
-    → are_attached settings (with_attachment a attachments) ≡ true
-attached_one settings a attachments here all =
-    of_all (λ (b : Attachment). is_device settings b.device) (with_attachment a attachments) (λ x within.
-    ⊎_elim
-    (λ (new : a ≡ x). ap (λ (b : Attachment). is_device settings b.device) (sym new) ∙ here)
-    (λ (old : IsIn attachments x). of_each (λ (b : Attachment). is_device settings b.device) attachments x all old)
-    (in_with_attachment a attachments x within))
 
 -- ---- a file is closed
 

@@ -6,9 +6,9 @@ use Rattle.iofd_words.specs.Objects.{comes_before, is_object, with_object, with_
 use Rattle.iofd_words.specs.declared.rows.Object.{Object}
 use Rattle.iofd_rows.proofs.Bools.{or_false, and_true, both_true}
 use Rattle.iofd_rows.proofs.Found.{all_filter, all_weaker}
+use Rattle.iofd_rows.proofs.Inserted.{all-inserted}
 use Rattle.iofd_rows.proofs.Accesses.{Attaches, IsReattached, Stays, all_reattached, reattached, reattached_is}
 use Rattle.iofd_runs.specs.Rising.{objects_rise}
-use Rattle.iofd_runs.proofs.Known.{known_one}
 use Rattle.iofd_words.specs.declared.numbers.FileNo.{FileNo}
 use Rattle.iofd_words.specs.declared.numbers.ObjId.{ObjId}
 
@@ -56,7 +56,8 @@ rise-with_object object (o ∷ objects) free rise =
     by_order true before other above rest =
         both_true _ _ (both_true _ _ before (all_after object o objects before above)) rise
     by_order false after other above rest =
-        both_true _ _ (known_one (comes_before o) object objects (before_or_after object o other after) above) rest
+        both_true _ _ (all-inserted comes_before (comes_before o) object objects (before_or_after object o other after)
+        above) rest
 
 -- ---- an access object is attached or detached
 

@@ -1,10 +1,11 @@
 -- The areas of address spaces: live, or leaving until the devices that may have cached them have flushed. UNMAPs that
 -- find them so are counted, up to a hundred, and are told then that asking again leads nowhere: this project's rule.
-use Rattle.std.specs.Prelude.{ℕ, ◌+◌, Bool, ◌==◌, ◌&&◌, ◌||◌, not, nat_le, nat_lt, max, Option, List, [], ◌∷◌, length}
+use Rattle.std.specs.Prelude.{ℕ, ◌+◌, Bool, ◌==◌, ◌&&◌, ◌||◌, not, nat_le, nat_lt, max, Option, List, length}
 use Rattle.std.specs.Prelude.{map, filter, fold}
 use Rattle.std.specs.Prelude.{find, sum_by, if◌then◌else◌}
 use Rattle.std.specs.List.{list_any}
 use Rattle.iofd_words.specs.Bounds.{Bounds}
+use Rattle.iofd_words.specs.Sorted.{inserted}
 use Rattle.iofd_words.specs.Span.{holds, meets, lies_in, size_of, span_from}
 use Rattle.iofd_words.specs.DeviceSet.{without_device}
 use Rattle.iofd_words.specs.declared.numbers.FileNo.{FileNo}
@@ -89,12 +90,13 @@ areas_of areas file ioas = filter (is_of file ioas) areas
 abbrev pub meets_area : List Area → FileNo → ObjId → Bounds → Bool
 meets_area areas file ioas span = areas_meet span (areas_of areas file ioas)
 
+-- the second is of the first's address space, and begins after it
+abbrev pub lies_before : Area → Area → Bool
+lies_before area a = is_of area.file area.ioas a && nat_lt area.span.first a.span.first
+
 -- one more area, before the first of its address space that begins after it
 abbrev pub with_area : Area → List Area → List Area
-with_area area [] = area ∷ []
-with_area area (a ∷ areas) =
-    if is_of area.file area.ioas a && nat_lt area.span.first a.span.first then area ∷ a ∷ areas
-    else a ∷ with_area area areas
+with_area = inserted lies_before
 
 -- the device owes no area a flush any more
 abbrev pub all_paid : DeviceNo → List Area → List Area

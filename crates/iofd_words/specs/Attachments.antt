@@ -1,7 +1,5 @@
 -- Devices that translate by a hardware page table.
-use Rattle.std.specs.Prelude.{ℕ, Bool, false, ◌==◌, ◌&&◌, not, nat_lt, Option, Some, None, List, []}
-use Rattle.std.specs.Prelude.{◌∷◌, map, filter}
-use Rattle.std.specs.Prelude.{find, if◌then◌else◌}
+use Rattle.std.specs.Prelude.{ℕ, Bool, false, ◌==◌, ◌&&◌, not, nat_lt, Option, Some, None, List, map, filter, find}
 use Rattle.std.specs.List.{list_any}
 use Rattle.iofd_words.specs.declared.numbers.FileNo.{FileNo}
 use Rattle.iofd_words.specs.declared.numbers.ObjId.{ObjId}
@@ -11,6 +9,7 @@ use Rattle.iofd_words.specs.declared.rows.ObjectKind.{ObjectKind}
 use Rattle.iofd_words.specs.declared.rows.ObjectKind.TheVariants as kind
 use Rattle.iofd_words.specs.declared.rows.Attachment.{Attachment}
 use Rattle.iofd_words.specs.Objects.{kind_of, is_hwpt_over}
+use Rattle.iofd_words.specs.Sorted.{inserted}
 
 abbrev pub attachment_of : List Attachment → DeviceNo → Option Attachment
 attachment_of attachments device = find (λ a. a.device.0 == device.0) attachments
@@ -39,12 +38,13 @@ abbrev pub devices_of : List Object → List Attachment → FileNo → ObjId →
 devices_of objects attachments file ioas =
     map (λ a. a.device.0) (filter (is_attached_to objects file ioas) attachments)
 
+-- the first is of a lower device
+abbrev pub has_lower_device : Attachment → Attachment → Bool
+has_lower_device a b = nat_lt a.device.0 b.device.0
+
 -- one more attachment, by rising device
 abbrev pub with_attachment : Attachment → List Attachment → List Attachment
-with_attachment attachment [] = attachment ∷ []
-with_attachment attachment (a ∷ others) =
-    if nat_lt attachment.device.0 a.device.0 then attachment ∷ a ∷ others
-    else a ∷ with_attachment attachment others
+with_attachment = inserted has_lower_device
 
 abbrev pub without_attachment : DeviceNo → List Attachment → List Attachment
 without_attachment device attachments = filter (λ a. not (a.device.0 == device.0)) attachments

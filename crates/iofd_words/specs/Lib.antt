@@ -29,6 +29,7 @@ pub mod Rights
 pub mod Room
 pub mod Run
 pub mod Settings
+pub mod Sorted
 pub mod Span
 pub mod TablePlaces
 pub mod Tables

@@ -1,10 +1,11 @@
 -- The objects of a file (iommufd.rst, "User Objects").
 use Rattle.std.specs.Prelude.{◌-◌, ◌^◌, Bool, true, false, ◌==◌, ◌&&◌, ◌||◌, not, nat_le, nat_lt}
 use Rattle.std.specs.Prelude.{Option, Some, None}
-use Rattle.std.specs.Prelude.{is_some, List, [], ◌∷◌, length, map, filter, find, if◌then◌else◌}
+use Rattle.std.specs.Prelude.{is_some, List, length, map, filter, find, if◌then◌else◌}
 use Rattle.std.specs.List.{list_any}
 use Rattle.iofd_words.specs.Files.{device_of}
 use Rattle.iofd_words.specs.Settings.{Settings, DeviceSettings, is_between}
+use Rattle.iofd_words.specs.Sorted.{inserted}
 use Rattle.iofd_words.specs.declared.numbers.FileNo.{FileNo}
 use Rattle.iofd_words.specs.declared.numbers.ObjId.{ObjId}
 use Rattle.iofd_words.specs.declared.numbers.DeviceNo.{DeviceNo}
@@ -153,8 +154,7 @@ abbrev pub comes_before : Object → Object → Bool
 comes_before a b = nat_lt a.file.0 b.file.0 || (a.file.0 == b.file.0 && nat_lt a.id.0 b.id.0)
 
 abbrev pub with_object : Object → List Object → List Object
-with_object object [] = object ∷ []
-with_object object (o ∷ os) = if comes_before object o then object ∷ o ∷ os else o ∷ with_object object os
+with_object = inserted comes_before
 
 -- the file's device of this id goes
 abbrev pub without_device_object : FileNo → ObjId → List Object → List Object

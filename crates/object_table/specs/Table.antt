@@ -6,6 +6,7 @@ use Rattle.std.specs.Prelude.{slice_index_or, slice_set}
 use Rattle.std.specs.List.{list_any}
 use Rattle.std.specs.Option.{option_map_or}
 use Rattle.iofd_words.specs.FirstTrue.{first_true}
+use Rattle.iofd_words.specs.Sorted as sorted
 use Rattle.iofd_words.specs.declared.numbers.FileNo.{FileNo}
 use Rattle.iofd_words.specs.declared.numbers.ObjId.{ObjId}
 use Rattle.iofd_words.specs.declared.refusal.Cause.{Cause}
@@ -90,8 +91,7 @@ module _ {V : Type 0} where
 
   -- the rows with one more, in its place
   abbrev pub inserted : Row V → List (Row V) → List (Row V)
-  inserted row [] = row ∷ []
-  inserted row (next ∷ rows) = if stands_before row next then row ∷ next ∷ rows else next ∷ inserted row rows
+  inserted = sorted.inserted stands_before
 
   -- the rows without the one at this file and id
   abbrev pub removed : FileNo → ObjId → List (Row V) → List (Row V)

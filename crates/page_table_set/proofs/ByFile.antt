@@ -6,10 +6,11 @@ use Rattle.std.specs.List.Sorted.{IsNonDecreasingBy}
 use Rattle.std.proofs.lemmas.Bool.{and_parts, cases_Bool}
 use Rattle.std.proofs.lemmas.Bool.Decides.{nat_tests}
 use Rattle.std.proofs.lemmas.List.Sums.{AllPass-from_list_all}
+use Rattle.iofd_rows.proofs.Inserted.{all-inserted}
 use Rattle.iofd_words.specs.Objects.{comes_before, is_object}
 use Rattle.iofd_words.specs.declared.numbers.FileNo.{FileNo}
 use Rattle.iofd_words.specs.declared.numbers.ObjId.{ObjId}
-use Rattle.page_table_set.specs.PageTables.{Hwpt, are_by_file, with_hwpt}
+use Rattle.page_table_set.specs.PageTables.{Hwpt, are_by_file, stands_before, with_hwpt}
 use Rattle.page_table_set.specs.Removed.{without_hwpt}
 
 abbrev pub file_of : Hwpt → ℕ
@@ -162,14 +163,7 @@ from_lower file low (h ∷ tables) from lower =
 
 from_with : (file : ℕ) (hwpt : Hwpt) (tables : List Hwpt) → leb file (file_of hwpt) ≡ true
     → from_file file tables ≡ true → from_file file (with_hwpt hwpt tables) ≡ true
-from_with file hwpt [] one from = rw one refl
-from_with file hwpt (h ∷ tables) one from =
-    let parts = and_parts (leb file (file_of h)) (from_file file tables) from in
-    ⊎_elim
-    (λ (before : comes_before hwpt.object h.object ≡ true). rw (before, one) from)
-    (λ (after : comes_before hwpt.object h.object ≡ false).
-    let here = parts.0 in rw (after, here) (from_with file hwpt tables one parts.1))
-    (cases_Bool (comes_before hwpt.object h.object))
+from_with file = all-inserted stands_before (λ (next : Hwpt). leb file (file_of next))
 
 pub by_file-with : (hwpt : Hwpt) (tables : List Hwpt) → are_by_file tables ≡ true
     → are_by_file (with_hwpt hwpt tables) ≡ true

@@ -8,9 +8,9 @@ use Rattle.std.proofs.lemmas.Bool.{eqb-true}
 use Rattle.std.proofs.lemmas.Bool.Decides.{nat_tests}
 use Rattle.std.proofs.lemmas.List.Sums.{sum_by-cons}
 use Rattle.iofd_rows.proofs.Bools.{and_true, both_false, both_true}
-use Rattle.iofd_rows.proofs.Each.{IsIn}
+use Rattle.iofd_rows.proofs.Each.{IsIn, in_inserted}
 use Rattle.iofd_words.specs.Levels.{levels_of}
-use Rattle.iofd_words.specs.Objects.{comes_before, is_object}
+use Rattle.iofd_words.specs.Objects.{is_object}
 use Rattle.iofd_words.specs.TablePlaces.{is_table_of}
 use Rattle.iofd_words.specs.declared.numbers.FrameNo.{FrameNo}
 use Rattle.iofd_words.specs.declared.rows.Object.{Object}
@@ -26,8 +26,8 @@ use Rattle.page_table_words.specs.Rows.{MappedPage, TableRow, page_at, table_at}
 use Rattle.page_table_words.specs.Stands.{TableRoot}
 use Rattle.page_table_words.specs.Taken.{names}
 use Rattle.page_table_set.proofs.OwnIds.{is_object-sym, objects, own_with}
-use Rattle.page_table_set.specs.PageTables.{AllStand, Hwpt, HwptStands, hwpt_at, root_frame, row_of, rows_of, tables_in}
-use Rattle.page_table_set.specs.PageTables.{with_hwpt}
+use Rattle.page_table_set.specs.PageTables.{AllStand, Hwpt, HwptStands, hwpt_at, root_frame, row_of, rows_of}
+use Rattle.page_table_set.specs.PageTables.{stands_before, tables_in, with_hwpt}
 
 eqb_same : (n : ℕ) → eqb n n ≡ true
 eqb_same n = grind (arith, nat_tests)
@@ -36,21 +36,7 @@ eqb_same n = grind (arith, nat_tests)
 
 -- it is the new one, or was there
 pub in_with : (h : Hwpt) (tables : List Hwpt) (x : Hwpt) → IsIn (with_hwpt h tables) x → (h ≡ x) ⊎ IsIn tables x
-in_with h [] x (inl same) = inl same
-in_with h [] x (inr none) = absurd none
-in_with h (t ∷ tables) x within = by_order (comes_before h.object t.object) within (in_with h tables x)
-  where
-    by_order : (b : Bool) → IsIn (cond b (h ∷ t ∷ tables) (t ∷ with_hwpt h tables)) x
-        → (IsIn (with_hwpt h tables) x → (h ≡ x) ⊎ IsIn tables x)
-        → (h ≡ x) ⊎ IsIn (t ∷ tables) x
-    by_order true (inl same) later = inl same
-    by_order true (inr rest) later = inr rest
-    by_order false (inl same) later = inr (inl same)
-    by_order false (inr rest) later = either (later rest)
-      where
-        either : (h ≡ x) ⊎ IsIn tables x → (h ≡ x) ⊎ IsIn (t ∷ tables) x
-        either (inl same) = inl same
-        either (inr there) = inr (inr there)
+in_with = in_inserted stands_before
 
 -- ---- its rows
 

@@ -16,7 +16,6 @@ pub mod OthersKept
 pub mod OwnIds
 pub mod Partly
 pub mod PlaceOfFile
-pub mod Placed
 pub mod Shed
 pub mod Staying
 pub mod TakenOut

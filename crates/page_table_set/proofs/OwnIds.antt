@@ -5,8 +5,10 @@ use Rattle.std.specs.List.{list_any}
 use Rattle.std.proofs.lemmas.Bool.Decides.{nat_tests}
 use Rattle.iofd_rows.proofs.Bools.{and_true, both_false, both_true, clash, not_false, not_true, or_false}
 use Rattle.iofd_rows.proofs.Each.{IsIn, of_any}
+use Rattle.iofd_rows.proofs.Inserted.{map-inserted}
+use Rattle.iofd_rows.proofs.OwnIds.{own_ids-with_object}
 use Rattle.iofd_rows.specs.Ids.{have_own_ids}
-use Rattle.iofd_words.specs.Objects.{comes_before, is_object}
+use Rattle.iofd_words.specs.Objects.{comes_before, is_object, with_object}
 use Rattle.iofd_words.specs.declared.numbers.FileNo.{FileNo}
 use Rattle.iofd_words.specs.declared.numbers.ObjId.{ObjId}
 use Rattle.iofd_words.specs.declared.rows.Object.{Object}
@@ -70,33 +72,16 @@ the_only (t ∷ tables) own a b in_a in_b same =
 
 -- ---- one more
 
-any_with : (p : Object → Bool) (h : Hwpt) (tables : List Hwpt) → p h.object ≡ false
-    → list_any p (objects tables) ≡ false → list_any p (objects (with_hwpt h tables)) ≡ false
-any_with p h [] here none = rw here refl
-any_with p h (t ∷ tables) here none = by_order (comes_before h.object t.object)
-    (any_with p h tables here (or_false (p t.object) (list_any p (objects tables)) none).1)
-  where
-    by_order : (b : Bool) → list_any p (objects (with_hwpt h tables)) ≡ false
-        → list_any p (objects (cond b (h ∷ t ∷ tables) (t ∷ with_hwpt h tables))) ≡ false
-    by_order true rest = both_false _ _ here none
-    by_order false rest = both_false _ _ (or_false (p t.object) (list_any p (objects tables)) none).0 rest
+pub objects-with_hwpt : (h : Hwpt) (tables : List Hwpt)
+    → objects (with_hwpt h tables) ≡ with_object h.object (objects tables)
+objects-with_hwpt = map-inserted (λ (h : Hwpt). h.object) comes_before
 
 pub own_with : (h : Hwpt) (tables : List Hwpt) → have_own_ids (objects tables) ≡ true
     → list_any (is_object h.object.file h.object.id) (objects tables) ≡ false
     → have_own_ids (objects (with_hwpt h tables)) ≡ true
-own_with h [] own none = refl
-own_with h (t ∷ tables) own none =
-    let others = or_false (is_object h.object.file h.object.id t.object)
-    (list_any (is_object h.object.file h.object.id) (objects tables)) none in
-    by_order (comes_before h.object t.object) others.0 (own_with h tables (own_parts t tables own).1 others.1)
-  where
-    by_order : (b : Bool) → is_object h.object.file h.object.id t.object ≡ false
-        → have_own_ids (objects (with_hwpt h tables)) ≡ true
-        → have_own_ids (objects (cond b (h ∷ t ∷ tables) (t ∷ with_hwpt h tables))) ≡ true
-    by_order true other rest = both_true _ _ (not_false _ none) own
-    by_order false other rest =
-        both_true _ _ (not_false _ (any_with (is_object t.object.file t.object.id) h tables
-        (is_object-sym t.object h.object ∙ other) (own_parts t tables own).0)) rest
+own_with h tables own none =
+    ap (λ (rows : List Object). have_own_ids rows) (objects-with_hwpt h tables)
+    ∙ own_ids-with_object h.object (objects tables) none own
 
 -- ---- one less
 

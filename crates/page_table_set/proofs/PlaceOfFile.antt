@@ -4,12 +4,11 @@ use Rattle.std.proofs.Common.{List, [], ◌∷◌, length, refl, ap, arith, ⊎_
 use Rattle.std.specs.List.{position, position_or_len}
 use Rattle.std.proofs.lemmas.Bool.{cases_Bool}
 use Rattle.std.proofs.lemmas.Bool.Decides.{nat_tests}
-use Rattle.std.proofs.lemmas.List.Sums.{prefix_len-le-length}
+use Rattle.iofd_rows.proofs.Inserted.{place_found, place_none}
 use Rattle.iofd_words.specs.Objects.{comes_before}
 use Rattle.iofd_words.specs.declared.rows.Object.{Object}
 use Rattle.page_table_set.specs.PageTables.{Hwpt, are_by_file}
 use Rattle.page_table_set.proofs.ByFile.{below, by_file_parts, file_of, none_below, none_of, of_file}
-use Rattle.page_table_set.proofs.Placed.{is_after, place_none}
 
 fewer_of : (file : ℕ) (tables : List Hwpt) → length (of_file file tables) ≤ length tables
 fewer_of file [] = omega arith
@@ -112,19 +111,12 @@ module _ (file : ℕ) (q : Hwpt → Bool) where
       let rest = none_at tables (rw other at at) in rw other (omega (arith, rest)))
       (cases_Bool (eqb (file_of h) file))
 
-  place_some : (n length k : ℕ) → cond (ltb n length) (Some n) None ≡ Some k → (n ≡ k) × (n < length)
-  place_some n length k found = by_test (ltb n length) refl found
-    where
-      by_test : (b : Bool) → ltb n length ≡ b → cond b (Some n) None ≡ Some k → (n ≡ k) × (n < length)
-      by_test true is found = (cc, grind (arith, nat_tests))
-      by_test false is found = absurd cc
-
   pub place_of : (tables : List Hwpt) (k : ℕ) → are_by_file tables ≡ true
       → position (λ h. eqb (file_of h) file && q h) (of_file file tables) ≡ Some k
       → (position (λ h. eqb (file_of h) file && q h) tables ≡ Some (below file tables + k))
       × (below file tables + k < length tables)
   place_of tables k rising found =
-      let at = place_some (position_or_len passes (of_file file tables)) (length (of_file file tables)) k found in
+      let at = place_found passes (of_file file tables) k found in
       let all = found_at tables rising at.1 in
       let few = behind_below file tables in
       let within : below file tables + k < length tables = omega (arith, at.0, at.1, few) in
@@ -136,13 +128,14 @@ module _ (file : ℕ) (q : Hwpt → Bool) where
       → position (λ h. eqb (file_of h) file && q h) (of_file file tables) ≡ None
       → position (λ h. eqb (file_of h) file && q h) tables ≡ None
   no_place tables none =
-      let end = place_none (position_or_len passes (of_file file tables)) (length (of_file file tables))
-      (prefix_len-le-length (λ (h : Hwpt). not (passes h)) (of_file file tables)) none in
-      let all = none_at tables end in
+      let all = none_at tables (place_none passes (of_file file tables) none) in
       let test : ltb (length tables) (length tables) ≡ false = grind (arith, nat_tests) in
       rw (all, test) refl
 
 -- ---- one that comes after an object of the file
+
+abbrev pub is_after : Object → Hwpt → Bool
+is_after object h = comes_before object h.object
 
 module _ (object : Object) where
   abbrev file : ℕ

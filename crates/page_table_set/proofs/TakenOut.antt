@@ -1,13 +1,12 @@
 -- The first page table of a file and id is taken out.
-use Rattle.std.proofs.Common.{◌≡◌, ℕ, suc, ◌+◌, ◌≤◌, Bool, true, false, cond, not, ltb, Some, None, List, [], ◌∷◌}
+use Rattle.std.proofs.Common.{◌≡◌, ℕ, suc, ◌+◌, ◌≤◌, Bool, true, false, cond, not, Some, None, List, [], ◌∷◌}
 use Rattle.std.proofs.Common.{length, get_or, refl, ap, sym, ◌∙◌, arith}
 use Rattle.std.specs.List.{position, position_or_len, remove}
-use Rattle.std.proofs.lemmas.Bool.Decides.{nat_tests}
 use Rattle.std.proofs.lemmas.List.Sums.{prefix_len-le-length}
 use Rattle.iofd_words.specs.Objects.{is_object}
 use Rattle.iofd_words.specs.declared.numbers.FileNo.{FileNo}
 use Rattle.iofd_words.specs.declared.numbers.ObjId.{ObjId}
-use Rattle.page_table_set.proofs.Placed.{place_found, place_none}
+use Rattle.iofd_rows.proofs.Inserted.{place_found, place_none}
 use Rattle.page_table_set.specs.PageTables.{Hwpt, hwpt_of}
 use Rattle.page_table_set.specs.Removed.{without_hwpt}
 
@@ -50,23 +49,13 @@ module _ (file : FileNo) (id : ObjId) where
           rw (← next) (rest.0, ap (λ (l : List Hwpt). t ∷ l) rest.1)
 
   pub none_there : (tables : List Hwpt) → position is_it tables ≡ None → hwpt_of tables file id ≡ None
-  none_there tables none = none_at tables (place_none (position_or_len is_it tables) (length tables)
-      (prefix_len-le-length (λ (h : Hwpt). not (is_it h)) tables) none)
-
-  within_length : (n length place : ℕ) → cond (ltb n length) (Some n) None ≡ Some place → n ≡ length → ⊥
-  within_length n length place found end = by_test (ltb n length) refl found
-    where
-      by_test : (b : Bool) → ltb n length ≡ b → cond b (Some n) None ≡ Some place → ⊥
-      by_test true is found = grind (arith, nat_tests)
-      by_test false is found = cc
+  none_there tables none = none_at tables (place_none is_it tables none)
 
   pub both_there : (tables : List Hwpt) (place : ℕ) (d : Hwpt) → position is_it tables ≡ Some place
       → (hwpt_of tables file id ≡ Some (get_or tables place d)) × (remove tables place ≡ without_hwpt file id tables)
   both_there tables place d found =
-      let at = place_found (position_or_len is_it tables) (length tables) place found in
-      let ends = within_length (position_or_len is_it tables) (length tables) place found in
-      let within = prefix_len-le-length (λ (h : Hwpt). not (is_it h)) tables in
-      some_at tables place d at (rw at at within) (λ end. ends (at ∙ end))
+      let at = place_found is_it tables place found in
+      some_at tables place d at.0 (omega (arith, at.0, at.1)) (λ end. omega (arith, at.0, at.1, end))
 
   pub taken_is : (tables : List Hwpt) (place : ℕ) (h : Hwpt) → position is_it tables ≡ Some place
       → h ≡ get_or tables place h → Some h ≡ hwpt_of tables file id

@@ -9,6 +9,7 @@ use Rattle.iofd_rows.specs.Ids.{have_own_ids}
 use Rattle.iofd_words.specs.Levels.{levels_of}
 use Rattle.iofd_words.specs.Objects.{comes_before, is_object}
 use Rattle.iofd_words.specs.Pages.{page_of}
+use Rattle.iofd_words.specs.Sorted.{inserted}
 use Rattle.iofd_words.specs.TablePlaces.{is_table_of}
 use Rattle.iofd_words.specs.Width.{bits_of}
 use Rattle.iofd_words.specs.declared.numbers.FileNo.{FileNo}
@@ -43,11 +44,13 @@ objects_of page_tables = map (λ h. h.object) page_tables.tables
 abbrev pub hwpt_of : List Hwpt → FileNo → ObjId → Option Hwpt
 hwpt_of tables file id = find (λ h. is_object file id h.object) tables
 
+-- the first's object comes before the second's
+abbrev pub stands_before : Hwpt → Hwpt → Bool
+stands_before hwpt h = comes_before hwpt.object h.object
+
 -- one more, by rising file and then by rising id
 abbrev pub with_hwpt : Hwpt → List Hwpt → List Hwpt
-with_hwpt hwpt [] = hwpt ∷ []
-with_hwpt hwpt (h ∷ tables) =
-    if comes_before hwpt.object h.object then hwpt ∷ h ∷ tables else h ∷ with_hwpt hwpt tables
+with_hwpt = inserted stands_before
 
 -- they stand by rising file
 abbrev pub are_by_file : List Hwpt → Bool

@@ -1,16 +1,16 @@
 -- The objects by which devices are bound, by rising device: one comes, and one is found.
-use Rattle.std.proofs.Common.{◌≡◌, ℕ, suc, ◌+◌, ◌≤◌, Bool, true, false, cond, ◌&&◌, eqb, ltb, leb, not, Option, Some}
-use Rattle.std.proofs.Common.{None, List, [], ◌∷◌, length, refl, ap, sym, ◌∙◌, arith}
-use Rattle.std.specs.List.{insert, list_all, position, position_or_len, prefix_len, slice_get}
+use Rattle.std.proofs.Common.{◌≡◌, ℕ, ◌≤◌, Bool, true, false, cond, ◌&&◌, eqb, ltb, leb, Option, List, [], ◌∷◌}
+use Rattle.std.proofs.Common.{refl, ap, ◌∙◌, arith}
+use Rattle.std.specs.List.{list_all, prefix_len, slice_get}
 use Rattle.std.proofs.lemmas.Bool.{and_parts}
 use Rattle.std.proofs.lemmas.Bool.Decides.{nat_tests}
-use Rattle.std.proofs.lemmas.List.Sums.{prefix_len-le-length}
+use Rattle.iofd_rows.proofs.Inserted.{all-inserted}
 use Rattle.iofd_words.specs.Objects.{binding_of, is_bound_as, is_bound_device}
 use Rattle.iofd_words.specs.declared.numbers.DeviceNo.{DeviceNo}
 use Rattle.iofd_words.specs.declared.rows.Object.{Object}
 use Rattle.iofd_words.specs.declared.rows.ObjectKind.{ObjectKind}
 use Rattle.iofd_words.specs.declared.rows.ObjectKind.TheVariants as kind
-use Rattle.server_state.specs.Devices.{are_bindings, bound_number, with_binding}
+use Rattle.server_state.specs.Devices.{are_bindings, binds_lower, bound_number, with_binding}
 use Rattle.server_state.proofs.Searched.{passing, rises, searched}
 
 -- ---- the object of a device is known by its number
@@ -40,56 +40,6 @@ bindings_rise (b ∷ bindings) are =
     let rest = and_parts (list_all (λ c. leb (number b) (number c)) bindings) (are_bindings bindings) first.1 in
     rw (first.0, rest.0) (bindings_rise bindings rest.1)
 
--- ---- where one comes
-
-abbrev is_above : Object → Object → Bool
-is_above object c = ltb (number object) (number c)
-
-insert_behind : (x : Object) (xs : List Object) (n : ℕ) (b : Object) → insert (x ∷ xs) (1 + n) b ≡ x ∷ insert xs n b
-insert_behind x xs n b = let next : 1 + n ≡ suc n = omega arith in rw next refl
-
-placed : (b : Object) (list : List Object) → insert list (position_or_len (is_above b) list) b ≡ with_binding b list
-placed b [] = refl
-placed b (c ∷ list) = by_order (is_above b c) refl (placed b list)
-  where
-    by_order : (above : Bool) → is_above b c ≡ above
-        → insert list (position_or_len (is_above b) list) b ≡ with_binding b list
-        → insert (c ∷ list) (position_or_len (is_above b) (c ∷ list)) b ≡ with_binding b (c ∷ list)
-    by_order true is rest = rw is refl
-    by_order false is rest = rw (is, insert_behind c list (position_or_len (is_above b) list) b)
-        (ap (λ others. c ∷ others) rest)
-
-place_found : (n length i : ℕ) → cond (ltb n length) (Some n) None ≡ Some i → n ≡ i
-place_found n length i found = by_test (ltb n length) found
-  where
-    by_test : (b : Bool) → cond b (Some n) None ≡ Some i → n ≡ i
-    by_test true found = cc
-    by_test false found = cc
-
-place_none : (n length : ℕ) → n ≤ length → cond (ltb n length) (Some n) None ≡ None → n ≡ length
-place_none n length within none = by_test (ltb n length) refl none
-  where
-    by_test : (b : Bool) → ltb n length ≡ b → cond b (Some n) None ≡ None → n ≡ length
-    by_test true is none = cc
-    by_test false is none = grind (arith, nat_tests)
-
-pub placed_before : (object : Object) (list : List Object) (place : ℕ)
-    → position (λ (c : Object). ltb (bound_number object.kind) (bound_number c.kind)) list ≡ Some place
-    → insert list place object ≡ with_binding object list
-placed_before object list place found =
-    let at : position_or_len (is_above object) list ≡ place =
-    place_found (position_or_len (is_above object) list) (length list) place found in
-    rw (← at) (placed object list)
-
-pub placed_last : (object : Object) (list : List Object)
-    → position (λ (c : Object). ltb (bound_number object.kind) (bound_number c.kind)) list ≡ None
-    → insert list (length list) object ≡ with_binding object list
-placed_last object list none =
-    let at : position_or_len (is_above object) list ≡ length list =
-    place_none (position_or_len (is_above object) list) (length list)
-    (prefix_len-le-length (λ (c : Object). not (is_above object c)) list) none in
-    ap (λ n. insert list n object) (sym at) ∙ placed object list
-
 -- ---- what one that comes leaves
 
 pub are_parts : (b : Object) (bindings : List Object) → are_bindings (b ∷ bindings) ≡ true
@@ -100,19 +50,6 @@ are_parts b bindings are =
     are in
     let rest = and_parts (list_all (λ c. leb (number b) (number c)) bindings) (are_bindings bindings) first.1 in
     (first.0, rest.0, rest.1)
-
-all_with : (q : Object → Bool) (b : Object) (bindings : List Object) → q b ≡ true → list_all q bindings ≡ true
-    → list_all q (with_binding b bindings) ≡ true
-all_with q b [] here all = rw here refl
-all_with q b (c ∷ bindings) here all =
-    let both = and_parts (q c) (list_all q bindings) all in
-    by_order (ltb (number b) (number c)) both (all_with q b bindings here both.1)
-  where
-    by_order : (above : Bool) → (q c ≡ true) × (list_all q bindings ≡ true)
-        → list_all q (with_binding b bindings) ≡ true
-        → list_all q (cond above (b ∷ c ∷ bindings) (c ∷ with_binding b bindings)) ≡ true
-    by_order true both rest = rw (here, both.0, both.1) refl
-    by_order false both rest = rw (both.0, rest) refl
 
 lower_too : (low high : ℕ) (bindings : List Object) → low ≤ high → list_all (λ c. leb high (number c)) bindings ≡ true
     → list_all (λ c. leb low (number c)) bindings ≡ true
@@ -141,7 +78,8 @@ are_with b (c ∷ bindings) device are =
         rw (device, first, lower_too (number b) (number c) bindings below parts.1, parts.0, parts.1, parts.2) refl
     by_order false is parts rest =
         let here : leb (number c) (number b) ≡ true = grind (arith, nat_tests) in
-        rw (parts.0, all_with (λ d. leb (number c) (number d)) b bindings here parts.1, rest) refl
+        rw (parts.0, all-inserted binds_lower (λ (d : Object). leb (number c) (number d)) b bindings here parts.1, rest)
+        refl
 
 -- so the object by which a device is bound is found where those of lower devices end
 pub binding_there : (bindings : List Object) (device : DeviceNo) → are_bindings bindings ≡ true → (o : Option Object)

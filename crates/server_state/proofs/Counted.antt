@@ -8,6 +8,7 @@ use Rattle.std.specs.List.{count_by, find, list_all, list_any}
 use Rattle.std.proofs.lemmas.Bool.Decides.{nat_tests}
 use Rattle.iofd_rows.proofs.Bools.{and_true, not_true}
 use Rattle.iofd_rows.proofs.Found.{found_passes}
+use Rattle.iofd_rows.proofs.Inserted.{count-inserted}
 use Rattle.iofd_rows.proofs.Named.{file_is, id_is}
 use Rattle.iofd_rows.specs.Debts.{attach_once, is_over_space}
 use Rattle.iofd_rows.specs.Ids.{have_own_ids}
@@ -123,22 +124,10 @@ space_under objects file id ioas width automatic over is = by_object (find (is_o
         [ Some own ↦ has_ioas objects x.file own | None ↦ true ]) of_kind) ∙ passes.0 in
         sym (ap (λ (f : FileNo). has_ioas objects f ioas) (file_is x.file file names.0)) ∙ there
 
-pub count-with : (p : Object → Bool) (object : Object) (objects : List Object)
-    → count_by p (with_object object objects) ≡ cond (p object) 1 0 + count_by p objects
-count-with p object [] = count-cons p object []
-count-with p object (o ∷ objects) =
-    rw (count-cons p o objects) (by_order (comes_before object o) (count-with p object objects))
-  where
-    by_order : (b : Bool) → count_by p (with_object object objects) ≡ cond (p object) 1 0 + count_by p objects
-        → count_by p (cond b (object ∷ o ∷ objects) (o ∷ with_object object objects)) ≡ cond (p object) 1 0
-        + (cond (p o) 1 0 + count_by p objects)
-    by_order true rest = rw (count-cons p object (o ∷ objects), count-cons p o objects) refl
-    by_order false rest = rw (count-cons p o (with_object object objects)) (omega (arith, rest))
-
 pub over-with : (object : Object) (objects : List Object) (f : FileNo) (i : ObjId)
     → tables_over (with_object object objects) f i ≡ over_by object.file object.kind f i + tables_over objects f i
 over-with object objects f i =
-    count-with (λ (o : Object). eqb o.file.0 f.0 && is_hwpt_over i o.kind) object objects
+    count-inserted comes_before (λ (o : Object). eqb o.file.0 f.0 && is_hwpt_over i o.kind) object objects
 
 pub no_one : (b : Bool) → ◌≡◌ {A = ℕ} (cond (b && false) 1 0) 0
 no_one true = refl
@@ -253,7 +242,8 @@ unattached file k f i none =
 pub to-beside : (object : Object) (objects : List Object) (f : FileNo) (i : ObjId) → access_ioas object.kind ≡ None
     → accesses_to (with_object object objects) f i ≡ accesses_to objects f i
 to-beside object objects f i other =
-    let all = count-with (λ (o : Object). eqb o.file.0 f.0 && is_access_to i o.kind) object objects in
+    let all =
+    count-inserted comes_before (λ (o : Object). eqb o.file.0 f.0 && is_access_to i o.kind) object objects in
     let none = unattached object.file object.kind f i other in
     omega (arith, all, none)
 

@@ -4,13 +4,14 @@ use Rattle.std.proofs.Common.{Option, Some, None, is_some, List, [], ◌∷◌, 
 use Rattle.std.specs.List.{list_all, list_any, slice_get}
 use Rattle.std.proofs.lemmas.Bool.Decides.{nat_tests}
 use Rattle.iofd_rows.proofs.Bools.{and_true, not_true}
+use Rattle.iofd_rows.proofs.Inserted.{count-inserted}
 use Rattle.iofd_rows.proofs.Moves.{device_is}
 use Rattle.iofd_rows.proofs.Named.{file_is, id_is}
 use Rattle.iofd_rows.specs.Debts.{attach_once, is_by_table}
 use Rattle.iofd_runs.proofs.Runs.{tests_false}
 use Rattle.iofd_runs.specs.Fits.{devices_rise}
-use Rattle.iofd_words.specs.Attachments.{attachment_of, has_device_on, ioas_of, ioas_of_attachment, with_attachment}
-use Rattle.iofd_words.specs.Attachments.{without_attachment}
+use Rattle.iofd_words.specs.Attachments.{attachment_of, has_device_on, has_lower_device, ioas_of, ioas_of_attachment}
+use Rattle.iofd_words.specs.Attachments.{with_attachment, without_attachment}
 use Rattle.iofd_words.specs.Files.{is_device, numbered}
 use Rattle.iofd_words.specs.Limits.{first_outside}
 use Rattle.iofd_words.specs.Objects.{has_ioas, is_hwpt, kind_of}
@@ -50,17 +51,7 @@ none_on attachments f i none = zero (devices_on attachments f i) (sym (has_devic
 
 pub devices-with : (a : Attachment) (attachments : List Attachment) (f : FileNo) (i : ObjId)
     → devices_on (with_attachment a attachments) f i ≡ on_by a f i + devices_on attachments f i
-devices-with a [] f i = count-cons (is_on f i) a []
-devices-with a (b ∷ attachments) f i =
-    rw (count-cons (is_on f i) b attachments)
-    (by_order (ltb a.device.0 b.device.0) (devices-with a attachments f i))
-  where
-    by_order : (t : Bool)
-        → devices_on (with_attachment a attachments) f i ≡ on_by a f i + devices_on attachments f i
-        → devices_on (cond t (a ∷ b ∷ attachments) (b ∷ with_attachment a attachments)) f i
-        ≡ on_by a f i + (on_by b f i + devices_on attachments f i)
-    by_order true rest = rw (count-cons (is_on f i) a (b ∷ attachments), count-cons (is_on f i) b attachments) refl
-    by_order false rest = rw (count-cons (is_on f i) b (with_attachment a attachments)) (omega (arith, rest))
+devices-with a attachments f i = count-inserted has_lower_device (is_on f i) a attachments
 
 -- a device that isn't attached
 not_there : (attachments : List Attachment) (device : DeviceNo)

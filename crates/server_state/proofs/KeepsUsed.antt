@@ -1,13 +1,14 @@
 -- After each event no table is idle, where it was so before and each idle table goes where an UNMAP answers bytes.
-use Rattle.std.proofs.Common.{◌≡◌, ◌⊎◌, inl, inr, ℕ, Bool, true, false, ◌&&◌, ◌||◌, cond, eqb, is_some, ltb, not, Option, Some, None}
+use Rattle.std.proofs.Common.{◌≡◌, ◌⊎◌, inl, inr, ℕ, Bool, true, false, ◌&&◌, ◌||◌, cond, eqb, is_some, not, Option, Some, None}
 use Rattle.std.proofs.Common.{List, [], ◌∷◌, map, refl, ap, subst, sym, ◌∙◌, arith, ⊎_elim}
 use Rattle.std.specs.List.{filter, list_all, list_any}
 use Rattle.std.proofs.lemmas.Bool.Decides.{nat_tests}
 use Rattle.std.proofs.lemmas.List.Folds.{list_any-append}
 use Rattle.iofd_rows.proofs.Bools.{and_true, both_false, both_true, clash, or_false}
 use Rattle.iofd_rows.proofs.Each.{IsIn, in_filter, in_map, in_with_object, of_any, of_each}
-use Rattle.iofd_rows.proofs.ListTests.{any-filter, false_else}
+use Rattle.iofd_rows.proofs.ListTests.{any-filter, false_else, or_right}
 use Rattle.iofd_rows.proofs.Named.{file_is, id_is, kind_only, object_of_kind}
+use Rattle.iofd_rows.proofs.PageLists.{any-with_area}
 use Rattle.iofd_rows.specs.Ids.{have_own_ids}
 use Rattle.iofd_runs.proofs.MissingTables.{missing_at, missing_is, needed_places}
 use Rattle.iofd_runs.proofs.Moves.{AreasMove, FewerAreas, OneArea, OtherPhases, SameAreas, changed_moves, takes_area}
@@ -16,10 +17,10 @@ use Rattle.iofd_runs.proofs.StillTabled.{hwpts_reattached}
 use Rattle.iofd_runs.proofs.NotRefused.{destroy_passed}
 use Rattle.iofd_runs.specs.Fits.{begins_at_page}
 use Rattle.iofd_runs.specs.Tabled.{AreTabled}
-use Rattle.iofd_words.specs.After.{changed, settle, without_areas}
+use Rattle.iofd_words.specs.After.{changed, mapped_area, settle, without_areas}
 use Rattle.iofd_runs.proofs.OwnIds.{keeps_own_ids}
 use Rattle.iofd_runs.proofs.SameTables.{same_tables}
-use Rattle.iofd_words.specs.Areas.{areas_meet, areas_of, is_of, with_area, with_phase}
+use Rattle.iofd_words.specs.Areas.{areas_meet, areas_of, is_of, with_phase}
 use Rattle.iofd_words.specs.Bounds.{Bounds}
 use Rattle.iofd_words.specs.Answers.{Answers}
 use Rattle.iofd_words.specs.Checks.{is_used, refusal}
@@ -121,27 +122,6 @@ met_is : (file : FileNo) (ioas : ObjId) (span : Bounds) (areas : List Area)
     → areas_meet span (areas_of areas file ioas) ≡ list_any (meets_own file ioas span) areas
 met_is file ioas span areas = any-filter (λ (a : Area). meets a.span span) (is_of file ioas) areas
 
-any_with_area : (p : Area → Bool) (area : Area) (areas : List Area) → list_any p areas ≡ true
-    → list_any p (with_area area areas) ≡ true
-any_with_area p area [] any = absurd (clash _ refl any)
-any_with_area p area (a ∷ areas) any =
-    by_test (is_of area.file area.ioas a && ltb area.span.first a.span.first) (p a) any (any_with_area p area areas)
-  where
-    later : (c : Bool) → list_any p (a ∷ areas) ≡ true → (c || list_any p (a ∷ areas)) ≡ true
-    later true is = refl
-    later false is = is
-
-    front : (c : Bool) → (c || list_any p areas) ≡ true → (list_any p areas ≡ true → list_any p (with_area area areas) ≡ true)
-        → (c || list_any p (with_area area areas)) ≡ true
-    front true is rest = refl
-    front false is rest = rest is
-
-    by_test : (b c : Bool) → list_any p (a ∷ areas) ≡ true
-        → (list_any p areas ≡ true → list_any p (with_area area areas) ≡ true)
-        → list_any p (cond b (area ∷ a ∷ areas) (a ∷ with_area area areas)) ≡ true
-    by_test true c is rest = later (p area) is
-    by_test false c is rest = front (p a) is rest
-
 any_phases : (file : FileNo) (ioas : ObjId) (span : Bounds) (phase : Area → _) (areas : List Area)
     → list_any (meets_own file ioas span) (map (λ (a : Area). with_phase (phase a) a) areas)
     ≡ list_any (meets_own file ioas span) areas
@@ -178,7 +158,8 @@ module _ {A : Type 0} (at : ℕ) (w : World) (e : Event A) (answer : Reply) wher
           (λ a within here gone. stays a within here (by a gone)))
       by_move new (OtherPhases phase lives is same) = rw is (any_phases file ioas span phase w.areas ∙ met)
       by_move new (OneArea number file' request iova passed lies makes alike is under) =
-          rw is (any_with_area (meets_own file ioas span) _ w.areas met)
+          rw is (any-with_area (meets_own file ioas span) (mapped_area number file' request iova) w.areas
+          ∙ or_right _ _ met)
 
   -- a page table that is there now was there, or no row was of it
   kind_back : have_own_ids w.objects ≡ true → (o : Object) → IsIn (changed at w e answer).objects o → is_hwpt o.kind ≡ true

@@ -1,6 +1,6 @@
 -- What objects that come or go leave of what is kept.
 use Rattle.std.proofs.Common.{ℕ, ◌+◌}
-use Rattle.std.proofs.Common.{◌≡◌, ◌<◌, ◌^◌, is_some, Vec, Bool, true, false, cond, leb, Option, Some, None, List, []}
+use Rattle.std.proofs.Common.{◌≡◌, ◌<◌, ◌^◌, is_some, Vec, true, false, leb, Option, Some, None, List, []}
 use Rattle.std.proofs.Common.{◌∷◌, map, refl, sym, ◌∙◌, ap, arith}
 use Rattle.std.specs.List.{find, list_all, list_any}
 use Rattle.std.specs.Option.{option_map}
@@ -13,7 +13,7 @@ use Rattle.iofd_words.specs.declared.numbers.FileNo.{FileNo}
 use Rattle.iofd_words.specs.declared.numbers.ObjId.{ObjId}
 use Rattle.iofd_words.specs.declared.rows.Object.{Object}
 use Rattle.iofd_words.specs.declared.rows.ObjectKind.{ObjectKind}
-use Rattle.iofd_rows.proofs.Bools.{and_true, both_true}
+use Rattle.iofd_rows.proofs.Inserted.{all-inserted, filter-inserted, map-inserted}
 use Rattle.iofd_rows.proofs.PageTables.{same_hwpt}
 use Rattle.user_memory_rows.proofs.FramesFollow.{pins_moved, translated_same}
 use Rattle.server_state.proofs.Objects.{kind_at, kind_of_rows}
@@ -35,43 +35,18 @@ use Rattle.user_memory_rows.proofs.AccessCounts.{counted_objects}
 -- an object that is no page table comes among page tables
 pub tables_beside : (object : Object) (objects : List Object) → is_hwpt object.kind ≡ false
     → page_tables_among (with_object object objects) ≡ page_tables_among objects
-tables_beside object [] other = rw other refl
-tables_beside object (o ∷ objects) other = by_order (comes_before object o) (tables_beside object objects other)
-  where
-    by_order : (b : Bool) → page_tables_among (with_object object objects) ≡ page_tables_among objects
-        → page_tables_among (cond b (object ∷ o ∷ objects) (o ∷ with_object object objects))
-        ≡ page_tables_among (o ∷ objects)
-    by_order true rest = rw other refl
-    by_order false rest = ap (λ (l : List Object). cond (is_hwpt o.kind) (o ∷ l) l) rest
+tables_beside object objects = filter-inserted comes_before (λ (o : Object). is_hwpt o.kind) object objects
 
 module _ {A : Type 0} where
   -- ---- an object comes
 
   pub objects-inserted : (row : Row (Held A)) (rows : List (Row (Held A)))
       → map object_of (inserted row rows) ≡ with_object (object_of row) (map object_of rows)
-  objects-inserted row [] = refl
-  objects-inserted row (next ∷ rows) = by_order (stands_before row next) (objects-inserted row rows)
-    where
-      by_order : (b : Bool) → map object_of (inserted row rows) ≡ with_object (object_of row) (map object_of rows)
-          → map object_of (cond b (row ∷ next ∷ rows) (next ∷ inserted row rows)) ≡ cond b
-          (object_of row ∷ object_of next ∷ map object_of rows)
-          (object_of next ∷ with_object (object_of row) (map object_of rows))
-      by_order true rest = refl
-      by_order false rest = ap (λ l. object_of next ∷ l) rest
+  objects-inserted row rows = map-inserted object_of comes_before row rows
 
   pub proper-inserted : (row : Row (Held A)) (rows : List (Row (Held A))) → is_proper row ≡ true
       → list_all is_proper rows ≡ true → list_all is_proper (inserted row rows) ≡ true
-  proper-inserted row [] here all = rw here refl
-  proper-inserted row (next ∷ rows) here all =
-      let parts = and_true (is_proper next) (list_all is_proper rows) all in
-      by_order (stands_before row next) (both_true _ _ here all)
-      (both_true _ _ parts.0 (proper-inserted row rows here parts.1))
-    where
-      by_order : (b : Bool) → list_all is_proper (row ∷ next ∷ rows) ≡ true
-          → list_all is_proper (next ∷ inserted row rows) ≡ true
-          → list_all is_proper (cond b (row ∷ next ∷ rows) (next ∷ inserted row rows)) ≡ true
-      by_order true first later = first
-      by_order false first later = later
+  proper-inserted row rows = all-inserted stands_before is_proper row rows
 
   -- an object that has no areas, under an unused id
   pub areas-inserted : (row : Row (Held A)) (rows : List (Row (Held A))) (file : FileNo) (id : ObjId)

@@ -1,7 +1,8 @@
 -- The objects by which devices are bound, as they are kept: by rising device.
-use Rattle.std.specs.Prelude.{ℕ, Bool, true, ◌&&◌, nat_lt, nat_le, List, [], ◌∷◌, if◌then◌else◌}
+use Rattle.std.specs.Prelude.{ℕ, Bool, true, ◌&&◌, nat_lt, nat_le, List, [], ◌∷◌}
 use Rattle.std.specs.List.{list_all}
 use Rattle.iofd_words.specs.Objects.{is_bound_device}
+use Rattle.iofd_words.specs.Sorted.{inserted}
 use Rattle.iofd_words.specs.declared.rows.Object.{Object}
 use Rattle.iofd_words.specs.declared.rows.ObjectKind.{ObjectKind}
 use Rattle.iofd_words.specs.declared.rows.ObjectKind.TheVariants as kind
@@ -20,8 +21,10 @@ are_bindings (b ∷ bindings) =
     is_bound_device b.kind
     && (list_all (λ c. nat_le (bound_number b.kind) (bound_number c.kind)) bindings && are_bindings bindings)
 
+-- the first binds a lower device
+abbrev pub binds_lower : Object → Object → Bool
+binds_lower b c = nat_lt (bound_number b.kind) (bound_number c.kind)
+
 -- one more, by rising device
 abbrev pub with_binding : Object → List Object → List Object
-with_binding b [] = b ∷ []
-with_binding b (c ∷ bindings) =
-    if nat_lt (bound_number b.kind) (bound_number c.kind) then b ∷ c ∷ bindings else c ∷ with_binding b bindings
+with_binding = inserted binds_lower

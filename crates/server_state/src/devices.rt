@@ -1,7 +1,6 @@
 //! Bindings and attachments stand by rising device, and are found by search.
 
-ghost use Rattle.std.specs.Prelude.{◌≡◌, ◌<◌, ◌≤◌, IfSome, IsTrue, length, nat_lt, position};
-ghost use Rattle.std.specs.Prelude.{vec_capacity, vec_len};
+ghost use Rattle.std.specs.Prelude.{◌≡◌, ◌<◌, ◌≤◌, IsTrue, length, nat_lt, vec_capacity, vec_len};
 ghost use Rattle.std.specs.List.{insert, prefix_len};
 ghost use Rattle.std.specs.Option.{option_copied};
 ghost use Rattle.iofd_runs.specs.Fits.{devices_rise};
@@ -70,23 +69,16 @@ pub fn insert_binding<A: Allocator>(bindings: &mut Vec<Object, A>, object: Objec
 }
 
 /// Before which of them the object stands.
-#[tactic(auto, using(crate::proofs::Bindings::placed_before, crate::proofs::Bindings::placed_last))]
 fn place_of(bindings: &[Object], object: Object) -> usize
     ensures within { result ≤ length bindings.now }
-    ensures value { insert bindings.now result object ≡ with_binding object bindings.now }
+    ensures placed { insert bindings.now result object ≡ with_binding object bindings.now }
 {
-    match first_above(bindings, object) {
-        Some(place) => place,
-        None => bindings.len(),
+    for (index, other) in bindings.iter().enumerate() {
+        if bound_number(object.kind) < bound_number(other.kind) {
+            return index;
+        }
     }
-}
-
-/// Where the first one stands that binds a higher device.
-fn first_above(bindings: &[Object], object: Object) -> Option<usize>
-    ensures value { result ≡ position (λ c. nat_lt (bound_number object.kind) (bound_number c.kind)) bindings.now }
-    ensures within { IfSome result (λ place. place < length bindings.now) }
-{
-    bindings.iter().position(|binding| bound_number(object.kind) < bound_number(binding.kind))
+    bindings.len()
 }
 
 /// The number of the device that is bound by it; 0 where none is.

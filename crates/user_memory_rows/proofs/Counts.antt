@@ -1,11 +1,12 @@
 -- How many areas lie over a memory object, and how many of them page tables translate, as areas and page tables come
 -- and go.
-use Rattle.std.proofs.Common.{◌≡◌, ℕ, ◌+◌, ◌≤◌, Bool, true, false, cond, ◌&&◌, ◌||◌, not, eqb, ltb, Some, is_some, List}
+use Rattle.std.proofs.Common.{◌≡◌, ℕ, ◌+◌, ◌≤◌, Bool, true, false, cond, ◌&&◌, ◌||◌, not, eqb, Some, is_some, List}
 use Rattle.std.proofs.Common.{[], ◌∷◌, map, refl, ap, sym, ◌∙◌, arith}
 use Rattle.std.specs.List.{count_by, filter, find}
 use Rattle.std.proofs.lemmas.Bool.Decides.{nat_tests}
-use Rattle.iofd_words.specs.Areas.{is_of, with_area}
+use Rattle.iofd_words.specs.Areas.{lies_before, with_area}
 use Rattle.iofd_words.specs.declared.rows.Area.{Area}
+use Rattle.iofd_rows.proofs.Inserted.{count-inserted}
 use Rattle.user_memory_rows.proofs.CountBy.{count-cons}
 
 -- ---- tests on rows
@@ -101,17 +102,7 @@ module _ {X : Type 0} where
 
 pub count_with_area : (p : Area → Bool) (x : Area) (areas : List Area)
     → count_by p (with_area x areas) ≡ count_by p areas + cond (p x) 1 0
-count_with_area p x [] = count-cons p x [] ∙ omega arith
-count_with_area p x (a ∷ areas) =
-    by_order (is_of x.file x.ioas a && ltb x.span.first a.span.first) (count_with_area p x areas)
-  where
-    by_order : (b : Bool) → count_by p (with_area x areas) ≡ count_by p areas + cond (p x) 1 0
-        → count_by p (cond b (x ∷ a ∷ areas) (a ∷ with_area x areas)) ≡ count_by p (a ∷ areas) + cond (p x) 1 0
-    by_order true rest = let first = count-cons p x (a ∷ areas) in omega (arith, first)
-    by_order false rest =
-        let first = count-cons p a (with_area x areas) in
-        let all = count-cons p a areas in
-        omega (arith, first, all, rest)
+count_with_area p x areas = let all = count-inserted lies_before p x areas in omega (arith, all)
 
 -- ---- areas change, and keep their memory objects and address spaces
 

@@ -1,8 +1,8 @@
 use Rattle.std.proofs.Common.{◌≡◌, ◌∙◌, ◌+◌, ℕ, List, length, sym, ap, arith}
 use Rattle.std.specs.List.{insert, position_or_len}
-use Rattle.page_table_set.specs.PageTables.{Hwpt}
-use Rattle.page_table_set.proofs.PlaceOfFile.{behind_below, place_after}
-use Rattle.page_table_set.proofs.Placed.{is_after, placed}
+use Rattle.iofd_rows.proofs.Inserted.{placed}
+use Rattle.page_table_set.specs.PageTables.{Hwpt, stands_before}
+use Rattle.page_table_set.proofs.PlaceOfFile.{behind_below, is_after, place_after}
 use Rattle.page_table_set.proofs.insertion.place_of.Goals as goal
 
 pub returns-clause-within : goal.returns-clause-within
@@ -21,4 +21,4 @@ returns-clause-value c = λ hwpt same.
     omega (arith, all, own, c.place_in-behind.ensures.value, c.count_below.ensures.value) in
     let its : position_or_len (is_after hwpt.object) c.args.tables.now
     ≡ c.count_below.result + c.place_in-behind.result = rw same here in
-    ap (λ (n : ℕ). insert c.args.tables.now n hwpt) (sym its) ∙ placed hwpt c.args.tables.now
+    ap (λ (n : ℕ). insert c.args.tables.now n hwpt) (sym its) ∙ placed stands_before hwpt c.args.tables.now
