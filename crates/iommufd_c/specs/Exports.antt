@@ -194,9 +194,9 @@ pub record IsTranslated (address : ℕ) (right : AccessKind) (before : Option Cl
   pub says_so : status ≡ says.translate_status told
   pub put : new ≡ translation_told old told
 
--- A server was opened, or why not; or the handle is open, and nothing else is asked; or what was asked for is outside the
--- limits, or there was no memory to ask, though each device's width is one that there is, and each reserved row a span of
--- a device. But for the first the handle is as it was.
+-- A server was opened, or why not; or the handle is open, and nothing else is asked; or what was asked for is outside
+-- the limits, or there was no memory to ask, though each device's width is one that there is, and each reserved row a
+-- span of a device. But for the first the handle is as it was.
 abbrev pub IsOpened : Bool → Settings → ℕ → ℕ → Option Client → ℤ → Option Client → Type 0
 IsOpened are_rows settings lanes cache before status after =
     ((told : Result (Unit {0}) OpenError) × Opens before settings lanes cache told after

@@ -42,7 +42,8 @@ impl Handle {
     ghost use Rattle.guarded_core.specs.OfPort.{event_of_port, query_of_port};
     ghost use Rattle.server_handle.specs.Calls.{Calls, Looks, ReadsBytes, Serves, TakesTurn, TellsNotices};
     ghost use Rattle.server_handle.specs.Calls.{TellsJournal, TranslatesPage, WritesBytes};
-    ghost use Rattle.server_handle.specs.Handles.{GivesDevice, GivesPort, GivesShare, OnCaller, OnDevice, Opens, Shares};
+    ghost use Rattle.server_handle.specs.Handles.{GivesDevice, GivesPort, GivesShare};
+    ghost use Rattle.server_handle.specs.Handles.{OnCaller, OnDevice, Opens, Shares};
 
     /// Opens a server with this configuration, for a handle that is closed. See `Caller::open`.
     pub fn open(
