@@ -10,7 +10,7 @@ ghost use Rattle.server_state.specs.Seen.{seen};
 ghost use Rattle.server_state.specs.Step.{IsGranted, ShowsSame, Steps};
 
 use iofd_words::{CallError, Cause, FileNo, NoMemory, Reply};
-use object_table::{Kind, ObjectTable};
+use object_table::ObjectTable;
 use server_state::{Held, State};
 use std::alloc::Allocator;
 
@@ -55,8 +55,6 @@ pub fn commit<A: Allocator>(state: &mut State<A>, file: FileNo) -> Result<Reply,
         Err(CallError::Refused(_)) => unreachable!(),
         Err(CallError::Memory(no_memory)) => return Err(no_memory),
     }
-    let id = state
-        .objects
-        .insert_reserved(file, Kind::Access, Held::Access(None));
+    let id = state.objects.insert_reserved(file, Held::Access(None));
     Ok(Reply::Id(id))
 }

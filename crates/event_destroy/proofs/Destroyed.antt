@@ -42,7 +42,6 @@ use Rattle.iofd_words.specs.declared.width.Width.{Width}
 use Rattle.iofd_rows.proofs.Allowed.{allowed_without, is_of_space}
 use Rattle.iofd_rows.proofs.Bools.{and_true, clash, or_false}
 use Rattle.iofd_rows.proofs.Each.{IsIn, in_filter, of_all}
-use Rattle.iofd_rows.proofs.Found.{all_filter}
 use Rattle.iofd_rows.proofs.ListTests.{false_else, filter_all}
 use Rattle.iofd_rows.proofs.Named.{file_is, id_is, kind_only}
 use Rattle.iofd_rows.proofs.PageTables.{hwpt_alike}
@@ -60,7 +59,7 @@ use Rattle.server_state.proofs.Objects.{areas_at_rows, areas_of_held, kind_at, k
 use Rattle.server_state.proofs.SpacesGone.{any_without, areas-removed, areas_elsewhere, areas_stay, found_without}
 use Rattle.server_state.proofs.SpacesGone.{other_goes}
 use Rattle.server_state.proofs.ObjectsGone.{may_go, objects-removed}
-use Rattle.server_state.specs.Held.{is_proper, areas_at, object_of, objects_in}
+use Rattle.server_state.specs.Held.{areas_at, destroy_refusal, object_of, objects_in}
 use Rattle.server_state.specs.Mapping.{own_areas, untranslated_pins}
 use Rattle.server_state.specs.Shows.{DirtyShown, ObjectsShown, Shows}
 use Rattle.server_state.specs.Users.{AccessSpaces, AreCounted, accesses_to, devices_on, tables_over, users_at}
@@ -91,7 +90,7 @@ use Rattle.page_table_words.specs.Rows.{TableRow}
 use Rattle.server_state.specs.declared.held.Held.{Held}
 use Rattle.server_state.specs.declared.held.Held.TheVariants as held
 use Rattle.server_state.specs.declared.state.State.{State}
-use Rattle.object_table.specs.Table.{Row, Table, destroy_refusal, is_at, own, removed}
+use Rattle.object_table.specs.Table.{Row, Table, removed}
 use Rattle.object_table.specs.declared.kind.Kind.TheVariants as tablekind
 use Rattle.server_state.proofs.AccessPinsStay.{holders_stay, shown_still}
 use Rattle.user_memory_rows.proofs.AccessStays.{CoveredAlike, accessed_stays}
@@ -281,7 +280,6 @@ module _ {A : Type 0} where
   objects_gone w s file id table shows rows files counted spaces = record {
     rows = ap (without_object file id) shows.objects.rows ∙ sym (objects-removed s.objects.rows file id)
         ∙ ap (map object_of) (sym rows);
-    proper = rw rows (all_filter is_proper (λ row. not (is_at file id row)) s.objects.rows shows.objects.proper);
     spaces = λ f i. areas-removed w.areas s.objects.rows file id shows.objects.spaces f i
         ∙ ap (λ l. areas_at l f i) (sym rows);
     files = λ number. rw files (shows.objects.files number);
@@ -456,7 +454,7 @@ module _ {A : Type 0} where
             let over = nothing_over in
             let to = nothing_to in
             let on = nothing_on in
-            rows (may_go s.objects file id kind.Ioas shows.objects.proper is_kind (omega (arith, here, over, to, on)))
+            rows (may_go s.objects file id kind.Ioas is_kind (omega (arith, here, over, to, on)))
 
     pub space_moves : (via : Option FrameNo) (given : List FrameNo) (new : State A) → given ≡ []
         → Shows (gone w file id) new → Moves at w file id via given new
@@ -554,7 +552,7 @@ module _ {A : Type 0} where
             let over = none_over_it in
             let to = none_to_it in
             let on = none_on_it in
-            rows (may_go s.objects file id (kind.Access attached) shows.objects.proper is_kind
+            rows (may_go s.objects file id (kind.Access attached) is_kind
             (omega (arith, here, over, to, on)))
 
     pub access_moves : (via : Option FrameNo) (given : List FrameNo) (new : State A) → given ≡ []
@@ -593,7 +591,6 @@ module _ {A : Type 0} where
       own_kept : own_areas table file ioas ≡ areas_of w.areas file ioas
       own_kept =
           own_at table file ioas (record {
-            proper = leaves.proper;
             ids = ap have_own_ids (sym leaves.rows) ∙ own_ids-filter _ w.objects tidy.ids;
           })
           ∙ sym (leaves.spaces file ioas)

@@ -61,21 +61,18 @@ use Rattle.iofd_words.specs.declared.rows.ObjectKind.{ObjectKind}
 use Rattle.iofd_words.specs.declared.rows.ObjectKind.TheVariants as kind
 use Rattle.iofd_rows.proofs.Allowed.{allowed_closed}
 use Rattle.iofd_rows.proofs.Bools.{and_true, both_true, clash, or_false}
-use Rattle.iofd_rows.proofs.Found.{all_filter, find-filter}
+use Rattle.iofd_rows.proofs.Found.{find-filter}
 use Rattle.iofd_rows.proofs.ListTests.{any-filter, none_stronger}
 use Rattle.event_destroy.specs.Held.{keeps_open}
 use Rattle.server_state.proofs.SpacesGone.{kind_rows}
-use Rattle.server_state.specs.Held.{is_proper, areas_at, kind_in, object_of, objects_in, table_kind}
+use Rattle.server_state.specs.Held.{areas_at, close_refusal, held_kind, kind_in, object_of, objects_in, table_kind}
 use Rattle.server_state.specs.Users.{users_at}
 use Rattle.server_state.specs.Shows.{DirtyShown, Shows}
 use Rattle.server_state.specs.Step.{IsTidy}
 use Rattle.server_state.specs.Tables.{has_own_width, page_tables_among}
 use Rattle.server_state.specs.declared.held.Held.{Held}
 use Rattle.server_state.specs.declared.state.State.{State}
-use Rattle.object_table.specs.Table.{Row, Table, close_refusal, closed, is_of_file, is_open, is_same_kind}
-use Rattle.object_table.specs.Table.{keeps_file_open, rows_of}
-use Rattle.object_table.specs.declared.kind.Kind.{Kind}
-use Rattle.object_table.specs.declared.kind.Kind.TheVariants as tablekind
+use Rattle.object_table.specs.Table.{Row, Table, closed, is_held, is_of_file, is_open, keeps_file_open, rows_of}
 use Rattle.server_state.proofs.AccessPinsStay.{holders_stay, shown_still}
 use Rattle.user_memory_rows.proofs.AccessStays.{CoveredAlike, accessed_stays}
 use Rattle.iofd_runs.proofs.Accessed.{EachHeld, each_held}
@@ -138,24 +135,12 @@ areas_other : (areas : List Area) (file f : FileNo) (i : ObjId) → eqb f.0 file
 areas_other [] file f i other = refl
 areas_other (area ∷ areas) file f i other = let rest = areas_other areas file f i other in grind (arith, nat_tests)
 
--- an object under its kind keeps the file open where it is a device or an access object
-kept_open : (a : Kind) (k : ObjectKind) → is_same_kind a (table_kind k) ≡ true → keeps_file_open a ≡ keeps_open k
-kept_open tablekind.Ioas kind.Ioas same = refl
-kept_open tablekind.Hwpt kind.Ioas same = cc
-kept_open tablekind.Device kind.Ioas same = cc
-kept_open tablekind.Access kind.Ioas same = cc
-kept_open tablekind.Ioas (kind.Hwpt ioas width automatic) same = cc
-kept_open tablekind.Hwpt (kind.Hwpt ioas width automatic) same = refl
-kept_open tablekind.Device (kind.Hwpt ioas width automatic) same = cc
-kept_open tablekind.Access (kind.Hwpt ioas width automatic) same = cc
-kept_open tablekind.Ioas (kind.Device device) same = cc
-kept_open tablekind.Hwpt (kind.Device device) same = cc
-kept_open tablekind.Device (kind.Device device) same = refl
-kept_open tablekind.Access (kind.Device device) same = cc
-kept_open tablekind.Ioas (kind.Access attached) same = cc
-kept_open tablekind.Hwpt (kind.Access attached) same = cc
-kept_open tablekind.Device (kind.Access attached) same = cc
-kept_open tablekind.Access (kind.Access attached) same = refl
+-- an object keeps its file open in the table where it does in the world
+kept_open : (k : ObjectKind) → keeps_file_open (table_kind k) ≡ keeps_open k
+kept_open kind.Ioas = refl
+kept_open (kind.Hwpt ioas width automatic) = refl
+kept_open (kind.Device device) = refl
+kept_open (kind.Access attached) = refl
 
 neither : {X : Type 0} (p q : X → Bool) (xs : List X) → list_any p xs ≡ false → list_any q xs ≡ false
     → list_any (λ x. p x || q x) xs ≡ false
@@ -198,23 +183,15 @@ module _ {A : Type 0} where
 
   -- ---- the table lets the file go
 
-  held_open : (rows : List (Row (Held A))) (file : FileNo) → list_all is_proper rows ≡ true
-      → list_any (λ row. keeps_file_open row.kind) (filter (is_of_file file) rows) ≡ list_any
-      (λ row. keeps_open (kind_in row.value)) (filter (is_of_file file) rows)
-  held_open [] file proper = refl
-  held_open (row ∷ rows) file proper =
-      let parts = and_true (is_proper row) (list_all is_proper rows) proper in
-      by_file (is_of_file file row) (kept_open row.kind (kind_in row.value) parts.0) (held_open rows file parts.1)
-    where
-      by_file : (b : Bool) → keeps_file_open row.kind ≡ keeps_open (kind_in row.value)
-          → list_any (λ (row : Row (Held A)). keeps_file_open row.kind) (filter (is_of_file file) rows) ≡ list_any
-          (λ (row : Row (Held A)). keeps_open (kind_in row.value)) (filter (is_of_file file) rows)
-          → list_any (λ (row : Row (Held A)). keeps_file_open row.kind)
-          (cond b (row ∷ filter (is_of_file file) rows) (filter (is_of_file file) rows)) ≡ list_any
-          (λ (row : Row (Held A)). keeps_open (kind_in row.value))
-          (cond b (row ∷ filter (is_of_file file) rows) (filter (is_of_file file) rows))
-      by_file true here rest = rw (here, rest) refl
-      by_file false here rest = rest
+  held_open : (rows : List (Row (Held A))) → list_any (λ row. keeps_file_open (held_kind row.value)) rows
+      ≡ list_any (λ row. keeps_open (kind_in row.value)) rows
+  held_open [] = refl
+  held_open (row ∷ rows) = rw (kept_open (kind_in row.value), held_open rows) refl
+
+  -- the table holds the file open where the world does
+  pub held_is : (table : Table (Held A)) (file : FileNo) → is_held held_kind table file
+      ≡ list_any (λ object. keeps_open object.kind) (objects_of (objects_in table) file)
+  held_is table file = held_open (rows_of table file) ∙ sym (kind_rows keeps_open table.rows file)
 
   module _ (at : ℕ) (w : World) (s : State A) (file : FileNo) (tidy : IsTidy at w) (shows : Shows w s)
       (none : first_true (close_checks (view w) file) ≡ None) where
@@ -226,7 +203,7 @@ module _ {A : Type 0} where
 
     may_close : close_refusal s.objects file ≡ None
     may_close =
-        let no = held_open s.objects.rows file shows.objects.proper ∙ sym (kind_rows keeps_open s.objects.rows file)
+        let no = held_is s.objects file
         ∙ ap (λ (l : List Object). list_any (λ object. keeps_open object.kind) (objects_of l file))
         (sym shows.objects.rows)
         ∙ neither (λ (o : Object). is_bound_device o.kind) (λ (o : Object). is_access o.kind)
@@ -423,8 +400,6 @@ module _ {A : Type 0} where
               objects = record {
                 rows = ap (filter (λ (o : Object). not (eqb o.file.0 file.0))) shows.objects.rows
                     ∙ sym (objects-closed s.objects.rows file) ∙ ap objects_in (sym is);
-                proper =
-                    rw is (all_filter is_proper (λ row. not (is_of_file file row)) s.objects.rows shows.objects.proper);
                 spaces = λ f i. areas-closed w.areas s.objects.rows file shows.objects.spaces f i
                     ∙ ap (λ (t : Table (Held A)). areas_at t.rows f i) (sym is);
                 files = λ number. ap (λ (t : Table (Held A)). is_open t number) is ∙ files_left number;

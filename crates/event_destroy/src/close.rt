@@ -11,8 +11,8 @@ ghost use Rattle.iofd_words.specs.declared.event.Event.TheVariants as event;
 ghost use Rattle.iofd_words.specs.declared.numbers.FrameNo.{FrameNo};
 ghost use Rattle.page_table_set.specs.PageTables.{IfAllStand, objects_of as objects_kept};
 ghost use Rattle.page_table_set.specs.Removed.{rows_of_file};
-ghost use Rattle.object_table.specs.Table.{close_refusal, closed, rows_of};
-ghost use Rattle.server_state.specs.Held.{kind_in, objects_in};
+ghost use Rattle.object_table.specs.Table.{closed, rows_of};
+ghost use Rattle.server_state.specs.Held.{close_refusal, objects_in};
 ghost use Rattle.event_destroy.specs.FileAreas.{areas_of_rows, translated_of};
 ghost use Rattle.event_destroy.specs.Held.{keeps_open};
 ghost use Rattle.user_memory_rows.specs.Moves.{IsReleased, MayRelease};
@@ -47,13 +47,7 @@ pub fn refusal<A: Allocator>(state: &State<A>, file: FileNo) -> Option<Cause>
 fn is_held<A: Allocator>(table: &ObjectTable<Held<A>, A>, file: FileNo) -> bool
     ensures { result ≡ list_any (λ object. keeps_open object.kind) (objects_of (objects_in table.now) file) }
 {
-    table.iter(file).any(|object| keeps_open(object.value))
-}
-
-fn keeps_open<A: Allocator>(held: &Held<A>) -> bool
-    ensures { result ≡ keeps_open (kind_in held.now) }
-{
-    matches!(held, Held::Device(_) | Held::Access(_))
+    table.is_held(file)
 }
 
 /// What it does where nothing refuses it: the file's objects, allowed ranges and attachments go, and its areas with

@@ -9,7 +9,6 @@ ghost use Rattle.server_state.specs.Step.{IsGranted, ShowsSame, Steps};
 
 use area_map::Areas;
 use iofd_words::{CallError, Cause, FileNo, NoMemory, Reply};
-use object_table::Kind;
 use server_state::{Held, State};
 use std::alloc::Allocator;
 
@@ -42,6 +41,6 @@ pub fn commit<A: Allocator + Copy>(state: &mut State<A>, file: FileNo) -> Result
         Err(CallError::Memory(no_memory)) => return Err(no_memory),
     }
     let held = Held::Ioas(Areas::new(state.alloc));
-    let id = state.objects.insert_reserved(file, Kind::Ioas, held);
+    let id = state.objects.insert_reserved(file, held);
     Ok(Reply::Id(id))
 }

@@ -73,7 +73,6 @@ module _ {A : Type 0} where
         allowed = shows.allowed;
         objects = record {
           rows = shows.objects.rows ∙ sym has.objects;
-          proper = has.proper;
           spaces = areas_become w.areas w s file ioas (areas_at s.objects.rows file ioas) table shows has
               (shows.objects.spaces file ioas) (λ f i other. refl);
           files = λ number. rw has.files (shows.objects.files number);
@@ -111,7 +110,7 @@ module _ {A : Type 0} where
   area_comes old roomy new file ioas added is_orderly space free stays room inserts =
       let first = stays is_orderly in
       let again : IsOrderly roomy =
-      record { proper = first.proper; ids = ap have_own_ids first.objects ∙ is_orderly.ids } in
+      record { ids = ap have_own_ids first.objects ∙ is_orderly.ids } in
       let there : has_ioas (objects_in roomy) file ioas ≡ true =
       ap (λ (objects : List Object). has_ioas objects file ioas) first.objects ∙ space in
       let taken : insert_refusal added.span (areas_at roomy.rows file ioas) ≡ None =
@@ -119,7 +118,6 @@ module _ {A : Type 0} where
       let last = inserts again there taken (room is_orderly space) in
       record {
         objects = last.objects ∙ first.objects;
-        proper = last.proper;
         here = last.here ∙ ap (own.with_area added) first.here;
         others = λ f i other. last.others f i other ∙ first.others f i other;
         files = last.files ∙ first.files;
@@ -136,7 +134,6 @@ module _ {A : Type 0} where
       let has = inserted is_orderly in
       record {
         rows = shows.objects.rows ∙ sym has.objects;
-        proper = has.proper;
         spaces =
             areas_become (world.with_area added w.areas) w s added.file added.ioas
             (own.with_area added (areas_at s.objects.rows added.file added.ioas)) table shows has

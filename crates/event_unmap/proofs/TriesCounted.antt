@@ -50,7 +50,7 @@ module _ {A : Type 0} (file : FileNo) (ioas : ObjId) (old : Table (Held A)) wher
   pub orderly_after : (areas : List Area) (new : Table (Held A)) → IsOrderly old → HasAreas file ioas areas old new
       → IsOrderly new
   orderly_after areas new orderly has =
-      record { proper = has.proper; ids = ap have_own_ids has.objects ∙ orderly.ids }
+      record { ids = ap have_own_ids has.objects ∙ orderly.ids }
 
   -- they change once more
   pub areas_again : (areas later : List Area) (between new : Table (Held A)) → HasAreas file ioas areas old between
@@ -58,7 +58,6 @@ module _ {A : Type 0} (file : FileNo) (ioas : ObjId) (old : Table (Held A)) wher
   areas_again areas later between new first second =
       record {
         objects = second.objects ∙ first.objects;
-        proper = second.proper;
         here = second.here;
         others = λ f i other. second.others f i other ∙ first.others f i other;
         files = second.files ∙ first.files;

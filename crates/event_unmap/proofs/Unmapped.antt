@@ -263,7 +263,6 @@ module _ {A : Type 0} where
               settings = shows.settings;
               objects = record {
                 rows = shows.objects.rows ∙ sym has.objects;
-                proper = has.proper;
                 spaces =
                     areas_become (with_leaving w.areas devices file request) w s file request.ioas
                     (map (waiting (unmapped_span request) most devices) (areas_at s.objects.rows file request.ioas)) t
@@ -414,7 +413,6 @@ module _ {A : Type 0} where
                 allowed = shows.allowed;
                 objects = record {
                   rows = shows.objects.rows ∙ sym has.objects;
-                  proper = has.proper;
                   spaces =
                       areas_become stay w s file request.ioas (areas_outside (unmapped_span request)
                       (areas_at s.objects.rows file request.ioas)) t shows has

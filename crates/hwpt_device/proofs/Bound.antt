@@ -24,7 +24,6 @@ use Rattle.server_state.specs.declared.held.Held.{Held}
 use Rattle.server_state.specs.declared.held.Held.TheVariants as held
 use Rattle.server_state.specs.declared.state.State.{State}
 use Rattle.object_table.specs.Table.{Table, inserted, is_at}
-use Rattle.object_table.specs.declared.kind.Kind.TheVariants as tablekind
 use Rattle.server_state.proofs.ObjectsMoved.{shows_inserted}
 
 same_device : (a b : DeviceNo) → eqb a.0 b.0 ≡ true → a ≡ b
@@ -76,7 +75,6 @@ module _ {A : Type 0} where
       → table.rows ≡ inserted (record {
         file = file;
         id = id;
-        kind = tablekind.Device;
         users = 0;
         value = held.Device device;
       }) s.objects.rows → table.files ≡ s.objects.files
@@ -89,11 +87,10 @@ module _ {A : Type 0} where
       shows_inserted w s (record {
         file = file;
         id = id;
-        kind = tablekind.Device;
         users = 0;
         value =
             held.Device device;
-      }) table bindings shows refl refl refl unused refl refl rows files
+      }) table bindings shows refl refl unused refl refl rows files
       (λ d. bound_by w.objects s.bindings.items file id device shows.devices.bindings free d
       ∙ ap (find (λ (object : Object). is_bound_as d object.kind)) (sym came))
       (ap are_bindings came

@@ -43,7 +43,7 @@ use Rattle.iofd_words.specs.declared.rows.ObjectKind.{ObjectKind}
 use Rattle.iofd_words.specs.declared.rows.ObjectKind.TheVariants as kind
 use Rattle.iofd_rows.proofs.Owed.{table_of}
 use Rattle.iofd_rows.proofs.Paid.{paid_areas_of}
-use Rattle.server_state.specs.Held.{areas_at, objects_in, space_of}
+use Rattle.server_state.specs.Held.{areas_at, objects_in, own, space_of}
 use Rattle.server_state.specs.Mapping.{own_areas, untranslated_pins}
 use Rattle.hwpt_device.specs.Attaching.{has_no_user, has_one_user, is_automatic_at, is_idle, takes_its_table}
 use Rattle.server_state.specs.Choice.{AreFramesChosen, IsChosen}
@@ -90,7 +90,7 @@ use Rattle.hwpt_device.proofs.Flushed.{attached_to, shows_paid, unattached}
 use Rattle.server_state.proofs.MemoryReleased.{AreFewer, may_release, may_release_over, over_map, shown_over}
 use Rattle.server_state.proofs.MemoryReleased.{tables_lead, tables_stand, translated_map}
 use Rattle.server_state.proofs.PageTables.{has_hwpt_kept}
-use Rattle.object_table.specs.Table.{Row, Table, changed_at, own, with_users}
+use Rattle.object_table.specs.Table.{Row, Table, changed_at, with_users}
 use Rattle.object_table.specs.declared.kind.Kind.TheVariants as of_kind
 
 -- what isn't attached was refused
@@ -233,7 +233,7 @@ module _ {A : Type 0} where
           let kind_s : kind_of (objects_in s.objects) a.file a.hwpt ≡ Some (kind.Hwpt ioas width automatic) =
           sym (ap (λ (objects : List Object). kind_of objects a.file a.hwpt) shows.objects.rows) ∙ kind_w in
           let (row, found, there) = own_row s.objects.rows a.file a.hwpt (kind.Hwpt ioas width automatic)
-          shows.objects.proper kind_s in
+          kind_s in
           let many = users_of_row w.objects w.attachments s.objects.rows shows.objects.counted a.file a.hwpt row
           there in
           let no_space : has_ioas w.objects a.file a.hwpt ≡ false =
@@ -319,7 +319,7 @@ module _ {A : Type 0} where
         ≡ not (has_device_on (without_attachment device w.attachments) a.file a.hwpt)
     users_tell =
         let (width, automatic, kind_w) = of_world in
-        let (row, found, there) = own_row less.rows a.file a.hwpt (kind.Hwpt ioas width automatic) less_shown.proper
+        let (row, found, there) = own_row less.rows a.file a.hwpt (kind.Hwpt ioas width automatic)
         (kind_less width automatic kind_w) in
         let many = users_of_row w.objects (without_attachment device w.attachments) less.rows less_shown.counted
         a.file a.hwpt row there in
@@ -439,7 +439,6 @@ module _ {A : Type 0} where
         shows_ended never never w.table_frames s.page_tables s.pool less s.dirty s.memory s.pool
         (record {
           rows = stays ∙ less_shown.rows;
-          proper = less_shown.proper;
           spaces = less_shown.spaces;
           files = less_shown.files;
           counted = λ f i. less_shown.counted f i
@@ -509,7 +508,6 @@ module _ {A : Type 0} where
       own_left : own_areas new a.file ioas ≡ all_paid device (areas_of w.areas a.file ioas)
       own_left =
           own_at new a.file ioas (record {
-            proper = objects_shown.proper;
             ids = ap have_own_ids (sym objects_shown.rows) ∙ own_ids-filter _ w.objects tidy.ids;
           })
           ∙ sym (objects_shown.spaces a.file ioas) ∙ paid_areas_of device w.areas a.file ioas

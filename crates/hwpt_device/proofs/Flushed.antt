@@ -117,7 +117,6 @@ module _ {A : Type 0} where
         settings = shows.settings;
         objects = record {
           rows = shows.objects.rows ∙ sym has.objects;
-          proper = has.proper;
           spaces = areas_paid w s device file ioas table tidy.debts shows space has;
           files = λ number. rw has.files (shows.objects.files number);
           counted = λ f i. has.users f i ∙ shows.objects.counted f i;

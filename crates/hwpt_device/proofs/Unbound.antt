@@ -20,7 +20,7 @@ use Rattle.iofd_words.specs.declared.rows.ObjectKind.TheVariants as kind
 use Rattle.iofd_rows.proofs.Bools.{and_true, clash}
 use Rattle.iofd_rows.proofs.BoundOnce.{unbound_after}
 use Rattle.iofd_rows.proofs.Each.{IsIn, of_all}
-use Rattle.iofd_rows.proofs.Found.{all_filter, find-filter, none_both}
+use Rattle.iofd_rows.proofs.Found.{find-filter, none_both}
 use Rattle.iofd_rows.proofs.ListTests.{filter_alike_on}
 use Rattle.iofd_rows.proofs.Moves.{device_is}
 use Rattle.iofd_rows.proofs.Named.{file_is, id_is, kind_only}
@@ -31,7 +31,7 @@ use Rattle.iofd_runs.proofs.HoldersStay.{unbound_accesses}
 use Rattle.iofd_runs.proofs.NotRefused.{unbind_passed}
 use Rattle.user_memory_rows.proofs.FramesFollow.{pins_moved, translated_same}
 use Rattle.server_state.proofs.SpacesGone.{areas-removed, areas_stay, found_without, other_goes}
-use Rattle.object_table.specs.Table.{Row, Table, destroy_refusal, is_at, removed}
+use Rattle.object_table.specs.Table.{Row, Table, removed}
 use Rattle.object_table.specs.declared.kind.Kind.TheVariants as of_kind
 use Rattle.server_state.proofs.Bindings.{are_parts}
 use Rattle.server_state.proofs.ObjectsGone.{may_go, objects-removed}
@@ -42,7 +42,7 @@ use Rattle.server_state.proofs.Counted.{counts_of, over_spaces}
 use Rattle.server_state.proofs.DevicesOn.{on_tables}
 use Rattle.server_state.proofs.TableRows.{areas_of_other}
 use Rattle.server_state.specs.Devices.{are_bindings, bound_number}
-use Rattle.server_state.specs.Held.{areas_at, is_proper, object_of, objects_in}
+use Rattle.server_state.specs.Held.{areas_at, destroy_refusal, object_of, objects_in}
 use Rattle.server_state.specs.Shows.{Shows}
 use Rattle.server_state.specs.Step.{IsTidy}
 use Rattle.server_state.specs.Users.{AccessSpaces, users_at}
@@ -198,7 +198,7 @@ module _ {A : Type 0} where
       (ap (λ (o : Option ObjectKind). elim o [ Some k ↦ is_hwpt k | None ↦ false ]) of_world) in
       let counted = shows.objects.counted file id in
       let none_to = shows.objects.accesses file id no_space_w in
-      let rows = goes (may_go s.objects file id (kind.Device device) shows.objects.proper is_kind
+      let rows = goes (may_go s.objects file id (kind.Device device) is_kind
       (omega (arith, counted, none_over, none_to, none_on))) in
       let empty = shows.objects.spaces file id ∙ areas_of_other s.objects.rows file id no_space in
       record {
@@ -209,7 +209,6 @@ module _ {A : Type 0} where
               ∙ ap (without_object file id) shows.objects.rows
               ∙ sym (objects-removed s.objects.rows file id)
               ∙ ap (map object_of) (sym rows);
-          proper = rw rows (all_filter is_proper (λ row. not (is_at file id row)) s.objects.rows shows.objects.proper);
           spaces =
               λ f i. ap (λ l. areas_of l f i) (sym (areas_stay w.areas file id empty))
               ∙ areas-removed w.areas s.objects.rows file id shows.objects.spaces f i

@@ -7,7 +7,9 @@ use Rattle.iofd_words.specs.declared.numbers.FileNo.{FileNo}
 use Rattle.iofd_words.specs.declared.numbers.ObjId.{ObjId}
 use Rattle.iofd_words.specs.declared.rows.Attachment.{Attachment}
 use Rattle.iofd_words.specs.declared.rows.Object.{Object}
-use Rattle.object_table.specs.Table.{Table, own}
+use Rattle.server_state.specs.Held.{own}
+use Rattle.server_state.specs.declared.held.Held.{Held}
+use Rattle.object_table.specs.Table.{Table}
 use Rattle.object_table.specs.declared.kind.Kind.TheVariants.{Hwpt}
 
 -- the object is an automatic page table
@@ -20,11 +22,11 @@ is_idle objects attachments file hwpt =
     is_automatic_at objects file hwpt && not (has_device_on attachments file hwpt)
 
 -- no user is counted with the page table
-abbrev pub has_no_user : {V : Type 0} → Table V → FileNo → ObjId → Bool
+abbrev pub has_no_user : {A : Type 0} → Table (Held A) → FileNo → ObjId → Bool
 has_no_user table file hwpt = elim (own table file Hwpt hwpt) [ Some row ↦ row.users == 0 | None ↦ true ]
 
 -- one user is counted with the page table
-abbrev pub has_one_user : {V : Type 0} → Table V → FileNo → ObjId → Bool
+abbrev pub has_one_user : {A : Type 0} → Table (Held A) → FileNo → ObjId → Bool
 has_one_user table file hwpt = elim (own table file Hwpt hwpt) [ Some row ↦ row.users == 1 | None ↦ false ]
 
 -- the device is the last one on an automatic page table, which goes with it

@@ -8,7 +8,6 @@ ghost use Rattle.server_state.specs.Seen.{seen};
 ghost use Rattle.server_state.specs.Step.{IsGranted, IsKnown, ShowsSame, Steps};
 
 use iofd_words::{CallError, Cause, DeviceNo, FileNo, NoMemory, Object, ObjectKind, Reply};
-use object_table::Kind;
 use server_state::{Held, State, devices};
 use std::alloc::Allocator;
 
@@ -53,9 +52,7 @@ pub fn commit<A: Allocator>(
         Err(CallError::Memory(no_memory)) => return Err(no_memory),
     }
     state.bindings.reserve(1)?;
-    let id = state
-        .objects
-        .insert_reserved(file, Kind::Device, Held::Device(device));
+    let id = state.objects.insert_reserved(file, Held::Device(device));
     let object = Object {
         file,
         id,

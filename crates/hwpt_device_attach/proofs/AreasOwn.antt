@@ -1,6 +1,5 @@
 -- The areas of an address space, after a page table's object came.
 use Rattle.std.proofs.Common.{◌≡◌, ◌<◌, ◌+◌, ◌^◌, ℕ, Bool, true, None, List, map, refl, sym, ◌∙◌, ap}
-use Rattle.std.specs.List.{list_all}
 use Rattle.iofd_rows.specs.Ids.{have_own_ids}
 use Rattle.iofd_runs.proofs.OwnIds.{own_ids-with_object, unused}
 use Rattle.iofd_words.specs.Areas.{areas_of}
@@ -11,12 +10,11 @@ use Rattle.iofd_words.specs.declared.numbers.ObjId.{ObjId}
 use Rattle.iofd_words.specs.declared.rows.Object.{Object}
 use Rattle.iofd_words.specs.declared.width.Width.{Width}
 use Rattle.object_table.specs.Table.{Row, Table, inserted, row_at}
-use Rattle.object_table.specs.declared.kind.Kind.TheVariants as of_kind
 use Rattle.server_state.proofs.AccessSpaces.{spaces-with}
 use Rattle.server_state.proofs.AreasBecome.{own_at}
-use Rattle.server_state.proofs.Counted.{areas-counted, objects-counted, proper-counted, table_comes, users-inserted}
-use Rattle.server_state.proofs.ObjectsMoved.{areas-inserted, fresh_id, objects-inserted, proper-inserted}
-use Rattle.server_state.specs.Held.{areas_at, is_proper, object_of}
+use Rattle.server_state.proofs.Counted.{areas-counted, objects-counted, table_comes, users-inserted}
+use Rattle.server_state.proofs.ObjectsMoved.{areas-inserted, fresh_id, objects-inserted}
+use Rattle.server_state.specs.Held.{areas_at, object_of}
 use Rattle.server_state.specs.Mapping.{own_areas}
 use Rattle.server_state.specs.Shows.{ObjectsShown, Shows}
 use Rattle.server_state.specs.Spaces.{IsOrderly}
@@ -31,7 +29,7 @@ use Rattle.hwpt_device_attach.specs.Making.{made_object}
 -- the row of a page table's object
 abbrev pub row_of : {A : Type 0} → FileNo → ObjId → ObjId → Width → Bool → Row (Held A)
 row_of file ioas id width automatic =
-    record { file = file; id = id; kind = of_kind.Hwpt; users = 0; value = held.Hwpt ioas width automatic }
+    record { file = file; id = id; users = 0; value = held.Hwpt ioas width automatic }
 
 module _ {A : Type 0} (at : ℕ) (w : World) (s : State A) (tidy : IsTidy at w) (shows : Shows w s) (file : FileNo)
     (ioas id : ObjId) (width : Width) (automatic : Bool) (new : Table (Held A))
@@ -57,9 +55,6 @@ module _ {A : Type 0} (at : ℕ) (w : World) (s : State A) (tidy : IsTidy at w) 
     objects_made = record {
       rows = ap (with_object (made_object file ioas id width automatic)) objects_base
           ∙ sym (objects-inserted row base.rows) ∙ ap (map object_of) (sym rows);
-      proper = ap (list_all is_proper) rows ∙ proper-inserted row base.rows refl
-          (ap (list_all is_proper) one.changed
-          ∙ proper-counted s.objects.rows file ioas (one.of.users + 1) ∙ shows.objects.proper);
       spaces = λ f i. shows.objects.spaces f i
           ∙ sym (areas-inserted row base.rows f i refl free
           ∙ ap (λ (l : List (Row (Held A))). areas_at l f i) one.changed
@@ -77,7 +72,6 @@ module _ {A : Type 0} (at : ℕ) (w : World) (s : State A) (tidy : IsTidy at w) 
 
     orderly_made : IsOrderly new
     orderly_made = record {
-      proper = objects_made.proper;
       ids = ap have_own_ids (sym objects_made.rows)
           ∙ own_ids-with_object (made_object file ioas id width automatic) w.objects
           (unused w.objects file id fresh_there) tidy.ids;

@@ -2,7 +2,7 @@
 use Rattle.std.proofs.Common.{◌≡◌, ℕ, ◌+◌, ◌≤◌, Bool, true, false, cond, ◌&&◌, not, eqb, ltb, Option, Some, None, inl}
 use Rattle.std.proofs.Common.{inr, List, [], ◌∷◌, length, map, refl, sym, ◌∙◌, ap, arith}
 use Rattle.std.specs.Prelude.{is_none}
-use Rattle.std.specs.List.{filter, list_all, list_any}
+use Rattle.std.specs.List.{filter, list_any}
 use Rattle.std.proofs.Math.Path.{fun_ext}
 use Rattle.std.proofs.lemmas.Bool.Decides.{nat_tests}
 use Rattle.iofd_rows.proofs.Bools.{both_true}
@@ -46,7 +46,7 @@ use Rattle.server_state.proofs.AreasBecome.{own_at}
 use Rattle.server_state.proofs.Orderly.{orderly}
 use Rattle.server_state.proofs.PageTables.{has_hwpt_kept, tables_shown}
 use Rattle.server_state.proofs.Limits.{room_there}
-use Rattle.server_state.specs.Held.{areas_at, is_proper, object_of, objects_in}
+use Rattle.server_state.specs.Held.{areas_at, object_of, objects_in}
 use Rattle.server_state.specs.Mapping.{own_areas}
 use Rattle.server_state.specs.Seen.{seen}
 use Rattle.server_state.specs.Shows.{Shows}
@@ -228,10 +228,7 @@ module _ {A : Type 0} where
       rest false c is both = both
 
       is_orderly : IsOrderly table
-      is_orderly = let old = orderly at w s tidy shows in record {
-        proper = ap (list_all is_proper) same ∙ old.proper;
-        ids = ap have_own_ids objects ∙ old.ids;
-      }
+      is_orderly = record { ids = ap have_own_ids objects ∙ (orderly at w s tidy shows).ids }
 
       space : own_areas table file ioas ≡ areas_of w.areas file ioas
       space = own_at table file ioas is_orderly ∙ ap (λ (rows : List (Row (Held A))). areas_at rows file ioas) same

@@ -45,7 +45,7 @@ use Rattle.hwpt_device_attach.proofs.Narrowed.{wide_attached}
 use Rattle.server_state.proofs.LeadsStay.{leads_alike, spaces_alike}
 use Rattle.server_state.proofs.Still.{still}
 use Rattle.server_state.specs.Choice.{AreFramesChosen, IsChosen, least_free}
-use Rattle.server_state.specs.Held.{objects_in}
+use Rattle.server_state.specs.Held.{objects_in, own}
 use Rattle.server_state.specs.Leads.{object_page}
 use Rattle.iofd_rows.proofs.Bools.{and_true}
 use Rattle.iofd_rows.proofs.Each.{in_found}
@@ -54,7 +54,7 @@ use Rattle.iofd_rows.specs.Ids.{have_own_ids}
 use Rattle.iofd_runs.proofs.OwnIds.{unused}
 use Rattle.iofd_words.specs.Limits.{first_outside}
 use Rattle.iofd_words.specs.Settings.{Settings}
-use Rattle.object_table.specs.Table.{Table, changed_at, own, with_users}
+use Rattle.object_table.specs.Table.{Table, changed_at, with_users}
 use Rattle.object_table.specs.declared.kind.Kind.TheVariants as of_kind
 use Rattle.server_state.proofs.AccessSpaces.{none_to}
 use Rattle.server_state.proofs.Counted.{few_standing, over-with, over_spaces}

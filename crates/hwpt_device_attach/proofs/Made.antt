@@ -10,7 +10,7 @@ use Rattle.memory_objects.specs.Objects.{pins_on}
 use Rattle.user_memory_rows.proofs.FramesFollow.{pins_same}
 use Rattle.user_memory_rows.specs.Shown.{FramesShown, tables_in}
 use Rattle.object_table.specs.Table.{Row}
-use Rattle.server_state.specs.Held.{areas_at, is_proper, object_of}
+use Rattle.server_state.specs.Held.{areas_at, object_of}
 use Rattle.server_state.specs.Leads.{leads_of}
 use Rattle.server_state.specs.Shows.{Shows, TablesShown}
 use Rattle.server_state.specs.Tables.{has_own_width}
@@ -43,7 +43,6 @@ module _ {A : Type 0} where
         allowed = shows.allowed;
         objects = record {
           rows = shows.objects.rows ∙ ap (map object_of) (sym rows);
-          proper = ap (list_all is_proper) rows ∙ shows.objects.proper;
           spaces = λ f i. shows.objects.spaces f i ∙ ap (λ (l : List (Row (Held A))). areas_at l f i) (sym rows);
           files = λ number. rw files (shows.objects.files number);
           counted = λ f i. ap (λ (l : List (Row (Held A))). users_at l f i) rows ∙ shows.objects.counted f i;

@@ -11,12 +11,13 @@ use Rattle.iofd_words.specs.declared.rows.Object.{Object}
 use Rattle.iofd_words.specs.declared.rows.ObjectKind.{ObjectKind}
 use Rattle.iofd_words.specs.declared.rows.ObjectKind.TheVariants as kind
 use Rattle.iofd_words.specs.declared.width.Width.{Width}
-use Rattle.object_table.specs.Table.{Row, Table, changed_at, is_at, own, with_users}
+use Rattle.object_table.specs.Table.{Row, Table, changed_at, is_at, with_users}
 use Rattle.object_table.specs.declared.kind.Kind.TheVariants as of_kind
 use Rattle.server_state.proofs.Counted.{few_standing, space_row, users_of_row, where_found}
 use Rattle.server_state.proofs.DevicesOn.{on_tables}
 use Rattle.server_state.specs.Shows.{Shows}
 use Rattle.server_state.specs.Step.{IsTidy}
+use Rattle.server_state.specs.Held.{own}
 use Rattle.server_state.specs.declared.held.Held.{Held}
 use Rattle.server_state.specs.declared.state.State.{State}
 use Rattle.hwpt_device_attach.specs.Making.{IsRoomy}
@@ -35,7 +36,7 @@ module _ {A : Type 0} where
       → base.rows ≡ changed_at file ioas (with_users (row.users + 1)) s.objects.rows)
       → CountsOne s.objects file ioas base
   counts_one at w s file ioas width base tidy shows roomy counts =
-      let (row, is_own, there) = space_row s.objects.rows file ioas shows.objects.proper
+      let (row, is_own, there) = space_row s.objects.rows file ioas
       (ap (λ (l : List Object). has_ioas l file ioas) (sym shows.objects.rows) ∙ roomy.space) in
       let many = users_of_row w.objects w.attachments s.objects.rows shows.objects.counted file ioas row there in
       let few = few_standing w.objects file ioas roomy.roomy in

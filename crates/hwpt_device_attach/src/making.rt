@@ -71,7 +71,7 @@ pub(crate) fn make<A: Allocator + Copy>(
     )?;
     counts::one_more(&mut state.objects, file, Kind::Ioas, ioas);
     let table = held_table(ioas, width, automatic);
-    let id = state.objects.insert_reserved(file, Kind::Hwpt, table);
+    let id = state.objects.insert_reserved(file, table);
     filling::add(
         &state.objects,
         ioas,

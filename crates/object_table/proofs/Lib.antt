@@ -1,4 +1,3 @@
-pub mod Callers
 pub mod EntryRows
 pub mod FileRows
 pub mod Lookup

@@ -28,13 +28,13 @@ module _ {V : Type 0} where
   pub is_at-other_id : (file : FileNo) (id : ObjId) (r : Row V) → r.id.0 ≢ id.0 → is_at file id r ≡ false
   is_at-other_id file id r differs = grind (arith, nat_tests)
 
-  pub is_own-other_file : (file : FileNo) (kind : Kind) (id : ObjId) (r : Row V) → r.file.0 ≢ file.0
-      → is_own file kind id r ≡ false
-  is_own-other_file file kind id r differs = rw (is_at-other_file file id r differs)
+  pub is_own-other_file : (kind_of : V → Kind) (file : FileNo) (kind : Kind) (id : ObjId) (r : Row V)
+      → r.file.0 ≢ file.0 → is_own kind_of file kind id r ≡ false
+  is_own-other_file kind_of file kind id r differs = rw (is_at-other_file file id r differs)
 
-  pub is_own-other_id : (file : FileNo) (kind : Kind) (id : ObjId) (r : Row V) → r.id.0 ≢ id.0
-      → is_own file kind id r ≡ false
-  is_own-other_id file kind id r differs = rw (is_at-other_id file id r differs)
+  pub is_own-other_id : (kind_of : V → Kind) (file : FileNo) (kind : Kind) (id : ObjId) (r : Row V) → r.id.0 ≢ id.0
+      → is_own kind_of file kind id r ≡ false
+  is_own-other_id kind_of file kind id r differs = rw (is_at-other_id file id r differs)
 
   pub is_at-here : (file : FileNo) (id : ObjId) (entry : Entry V) → is_at file id (row_of file id entry) ≡ true
   is_at-here file id entry = grind (arith, nat_tests)
@@ -44,10 +44,10 @@ module _ {V : Type 0} where
   found-is_at file id None = refl
   found-is_at file id (Some entry) = rw (is_at-here file id entry)
 
-  pub found-is_own : (file : FileNo) (kind : Kind) (id : ObjId) (o : Option (Entry V))
-      → found (is_own file kind id) file id o ≡ own_row file kind id o
-  found-is_own file kind id None = refl
-  found-is_own file kind id (Some entry) = rw (is_at-here file id entry)
+  pub found-is_own : (kind_of : V → Kind) (file : FileNo) (kind : Kind) (id : ObjId) (o : Option (Entry V))
+      → found (is_own kind_of file kind id) file id o ≡ own_row kind_of file kind id o
+  found-is_own kind_of file kind id None = refl
+  found-is_own kind_of file kind id (Some entry) = rw (is_at-here file id entry)
 
 module _ {V A : Type 0} where
   -- a search of a file's own rows, by a test that fails at every other id

@@ -16,7 +16,7 @@ use Rattle.iofd_words.specs.declared.refusal.Cause.TheVariants as cause
 use Rattle.object_table.specs.declared.kind.Kind.{Kind}
 use Rattle.object_table.specs.declared.file_objects.FileObjects.{FileObjects}
 use Rattle.object_table.specs.Table.{Row, Table, is_open, reserved_id, is_of_file, is_at, rows_of, row_at, own}
-use Rattle.object_table.specs.Table.{inserted, removed, changed_at, closed, insert_refusal, close_refusal}
+use Rattle.object_table.specs.Table.{inserted, removed, changed_at, closed, insert_refusal, close_refusal, is_held}
 use Rattle.object_table.specs.Table.{keeps_file_open, greatest_count, OthersKeepRoom}
 use Rattle.object_table.specs.Layout.{row_of, keyed_row, own_row, entry_at, next_id, file_refusal, file_rows, rows_from}
 use Rattle.object_table.specs.Layout.{table_of}
@@ -70,8 +70,10 @@ module _ {V A : Type 0} (files : List (FileObjects V A)) (file : FileNo) where
   pub outside_row_at : (id : ObjId) → IsOutside → row_at (table_of files) file id ≡ None
   outside_row_at id outside = find_outside files file.0 (is_at file id) (λ r. is_at-other_file file id r) outside
 
-  pub outside_own : (kind : Kind) (id : ObjId) → IsOutside → own (table_of files) file kind id ≡ None
-  outside_own kind id outside = find_outside files file.0 _ (λ r. is_own-other_file file kind id r) outside
+  pub outside_own : (kind_of : V → Kind) (kind : Kind) (id : ObjId) → IsOutside
+      → own kind_of (table_of files) file kind id ≡ None
+  outside_own kind_of kind id outside =
+      find_outside files file.0 _ (λ r. is_own-other_file kind_of file kind id r) outside
 
   pub outside_rows_of : IsOutside → rows_of (table_of files) file ≡ []
   outside_rows_of outside = filter_none (is_of_file file) _
@@ -80,14 +82,15 @@ module _ {V A : Type 0} (files : List (FileObjects V A)) (file : FileNo) where
   pub outside_is_full : IsOutside → nat_le greatest_count (length (rows_of (table_of files) file)) ≡ false
   outside_is_full outside = rw (outside_rows_of outside)
 
-  pub outside_is_held : IsOutside → list_any (λ row. keeps_file_open row.kind) (rows_of (table_of files) file) ≡ false
-  outside_is_held outside = rw (outside_rows_of outside)
+  pub outside_is_held : (kind_of : V → Kind) → IsOutside → is_held kind_of (table_of files) file ≡ false
+  outside_is_held kind_of outside = rw (outside_rows_of outside)
 
   pub outside_insert_refusal : IsOutside → insert_refusal (table_of files) file ≡ Some cause.Id
   outside_insert_refusal outside = rw (outside_is_open outside)
 
-  pub outside_close_refusal : IsOutside → close_refusal (table_of files) file ≡ Some cause.Id
-  outside_close_refusal outside = rw (outside_is_open outside)
+  pub outside_close_refusal : (kind_of : V → Kind) → IsOutside
+      → close_refusal kind_of (table_of files) file ≡ Some cause.Id
+  outside_close_refusal kind_of outside = rw (outside_is_open outside)
 
   -- a file isn't there, or stands at its place
   pub inside_or_outside : IsOutside ⊎ ((file.0 - 1 + 1 ≡ file.0) × (file.0 - 1 < length files))
@@ -142,11 +145,12 @@ module _ {V A : Type 0} (files : List (FileObjects V A)) (file : FileNo) (place 
       (λ r. is_at-other_id file id r) is within
       ∙ rw (← stands) (found-is_at file id (entry_at f id))
 
-  pub own-inside : (kind : Kind) (id : ObjId) → own (table_of files) file kind id ≡ own_row file kind id (entry_at f id)
-  own-inside kind id =
-      find_inside files file id place f _ (λ r. is_own-other_file file kind id r)
-      (λ r. is_own-other_id file kind id r) is within
-      ∙ rw (← stands) (found-is_own file kind id (entry_at f id))
+  pub own-inside : (kind_of : V → Kind) (kind : Kind) (id : ObjId)
+      → own kind_of (table_of files) file kind id ≡ own_row kind_of file kind id (entry_at f id)
+  own-inside kind_of kind id =
+      find_inside files file id place f _ (λ r. is_own-other_file kind_of file kind id r)
+      (λ r. is_own-other_id kind_of file kind id r) is within
+      ∙ rw (← stands) (found-is_own kind_of file kind id (entry_at f id))
 
   pub rows_of-inside : rows_of (table_of files) file ≡ file_rows file.0 f
   rows_of-inside =
@@ -178,29 +182,23 @@ module _ {V A : Type 0} (files : List (FileObjects V A)) (file : FileNo) (place 
       by_mark false e = rw (rows_of-inside, e)
       by_mark true e = rw (rows_of-inside, length-file_rows file.0 f e, e)
 
-  pub is_held-inside : f.is_open ≡ true → list_any (λ row. keeps_file_open row.kind) (rows_of (table_of files) file)
-      ≡ list_any (λ e. keeps_file_open e.1.kind) (entries f.objects)
-  is_held-inside e =
-      rw (rows_of-inside, e) (list_any-map (λ row. keeps_file_open row.kind) (keyed_row file.0) (entries f.objects))
+  pub is_held-inside : (kind_of : V → Kind) → f.is_open ≡ true → is_held kind_of (table_of files) file
+      ≡ list_any (λ e. keeps_file_open (kind_of e.1.value)) (entries f.objects)
+  is_held-inside kind_of e =
+      rw (rows_of-inside, e)
+      (list_any-map (λ row. keeps_file_open (kind_of row.value)) (keyed_row file.0) (entries f.objects))
 
-  pub is_held-closed : f.is_open ≡ false → list_any (λ row. keeps_file_open row.kind)
-      (rows_of (table_of files) file) ≡ false
-  is_held-closed e = rw (rows_of-inside, e)
+  pub is_held-closed : (kind_of : V → Kind) → f.is_open ≡ false → is_held kind_of (table_of files) file ≡ false
+  is_held-closed kind_of e = rw (rows_of-inside, e)
 
-  pub close_refusal-inside : f.is_open ≡ true
-      → close_refusal (table_of files) file ≡ cond
-      (list_any (λ e. keeps_file_open e.1.kind) (entries f.objects)) (Some cause.InUse) None
-  close_refusal-inside e =
-      rw (
-        is_open-inside,
-        e,
-        rows_of-inside,
-        e,
-        list_any-map (λ row. keeps_file_open row.kind) (keyed_row file.0) (entries f.objects),
-      )
+  pub close_refusal-inside : (kind_of : V → Kind) → f.is_open ≡ true
+      → close_refusal kind_of (table_of files) file ≡ cond
+      (list_any (λ e. keeps_file_open (kind_of e.1.value)) (entries f.objects)) (Some cause.InUse) None
+  close_refusal-inside kind_of e = rw (is_open-inside, e, is_held-inside kind_of e)
 
-  pub close_refusal-closed : f.is_open ≡ false → close_refusal (table_of files) file ≡ Some cause.Id
-  close_refusal-closed e = rw (is_open-inside, e)
+  pub close_refusal-closed : (kind_of : V → Kind) → f.is_open ≡ false
+      → close_refusal kind_of (table_of files) file ≡ Some cause.Id
+  close_refusal-closed kind_of e = rw (is_open-inside, e)
 
   module _ (new : FileObjects V A) where
     whole_new : rows_from 1 (set files place new) ≡ rows_from 1 (take place files)

@@ -20,7 +20,7 @@ key_end = 2147483647
 
 module _ {V : Type 0} where
   abbrev pub row_of : FileNo → ObjId → Entry V → Row V
-  row_of file id entry = record { file = file; id = id; kind = entry.kind; users = entry.users; value = entry.value }
+  row_of file id entry = record { file = file; id = id; users = entry.users; value = entry.value }
 
   -- the row of what a slab has under a key, in the file of this number
   abbrev pub keyed_row : ℕ → ℕ × Entry V → Row V
@@ -31,9 +31,10 @@ module _ {V : Type 0} where
   entry_at file id = if file.is_open && nat_lt 0 id.0 then get file.objects (id.0 - 1) else None
 
   -- the row of an object that stands at an id of a file, if it is of that kind
-  abbrev pub own_row : FileNo → Kind → ObjId → Option (Entry V) → Option (Row V)
-  own_row file kind id None = None
-  own_row file kind id (Some entry) = if is_same_kind entry.kind kind then Some (row_of file id entry) else None
+  abbrev pub own_row : (V → Kind) → FileNo → Kind → ObjId → Option (Entry V) → Option (Row V)
+  own_row kind_of file kind id None = None
+  own_row kind_of file kind id (Some entry) =
+      if is_same_kind (kind_of entry.value) kind then Some (row_of file id entry) else None
 
   -- a file has at most as many objects as it may have, each under a key that has an id
   pub record IsInLimits {A : Type 0} (file : FileObjects V A) : Type 0 where

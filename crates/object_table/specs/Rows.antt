@@ -6,7 +6,6 @@ abbrev pub row_shown : {V : Type 0} → ObjectRef V → Row V
 row_shown object = record {
   file = object.file;
   id = object.id;
-  kind = object.kind;
   users = object.users;
   value = object.value.now;
 }

@@ -30,11 +30,10 @@ keeps_file_open Hwpt = false
 keeps_file_open Device = true
 keeps_file_open Access = true
 
--- an object: the file in whose table it stands, its id there, its kind, how many use it, what it holds
+-- an object: the file in whose table it stands, its id there, how many use it, what it holds
 pub record Row (V : Type 0) : Type 0 where
   pub file : FileNo
   pub id : ObjId
-  pub kind : Kind
   pub users : ℕ
   pub value : V
 
@@ -69,9 +68,6 @@ module _ {V : Type 0} where
   abbrev pub is_at : FileNo → ObjId → Row V → Bool
   is_at file id row = is_of_file file row && (row.id.0 == id.0)
 
-  abbrev pub is_own : FileNo → Kind → ObjId → Row V → Bool
-  is_own file kind id row = is_at file id row && is_same_kind row.kind kind
-
   -- the file's objects, by rising id
   abbrev pub rows_of : Table V → FileNo → List (Row V)
   rows_of t file = filter (is_of_file file) t.rows
@@ -79,10 +75,6 @@ module _ {V : Type 0} where
   -- the object that has this id in the file
   abbrev pub row_at : Table V → FileNo → ObjId → Option (Row V)
   row_at t file id = find (is_at file id) t.rows
-
-  -- the object of this kind that has this id in the file
-  abbrev pub own : Table V → FileNo → Kind → ObjId → Option (Row V)
-  own t file kind id = find (is_own file kind id) t.rows
 
   -- the first stands before the second: in an earlier file, or in the same one with a smaller id
   abbrev pub stands_before : Row V → Row V → Bool
@@ -114,20 +106,6 @@ module _ {V : Type 0} where
       ∷ (cause.Full, nat_le greatest_count (length (rows_of t file)))
       ∷ [])
 
-  -- why the object can't be destroyed
-  abbrev pub destroy_refusal : Table V → FileNo → Kind → ObjId → Option Cause
-  destroy_refusal t file kind id = first_true (
-      (cause.Id, is_none (own t file kind id))
-      ∷ (cause.InUse, option_map_or (λ row. nat_lt 0 row.users) (own t file kind id) false)
-      ∷ [])
-
-  -- why the file can't be closed
-  abbrev pub close_refusal : Table V → FileNo → Option Cause
-  close_refusal t file = first_true (
-      (cause.Id, not (is_open t file))
-      ∷ (cause.InUse, list_any (λ row. keeps_file_open row.kind) (rows_of t file))
-      ∷ [])
-
   -- the table once the file is closed
   abbrev pub closed : Table V → FileNo → Table V
   closed t file = record {
@@ -140,6 +118,30 @@ module _ {V : Type 0} where
   abbrev pub OthersKeepRoom : FileNo → Table V → Table V → Type 0
   OthersKeepRoom file old new =
       (other : FileNo) → other.0 ≢ file.0 → reserved_id new other ≡ reserved_id old other
+
+-- where the kind of an object is this one of what it holds
+module _ {V : Type 0} (kind_of : V → Kind) where
+  abbrev pub is_own : FileNo → Kind → ObjId → Row V → Bool
+  is_own file kind id row = is_at file id row && is_same_kind (kind_of row.value) kind
+
+  -- the object of this kind that has this id in the file
+  abbrev pub own : Table V → FileNo → Kind → ObjId → Option (Row V)
+  own t file kind id = find (is_own file kind id) t.rows
+
+  -- whether an object keeps the file from being closed
+  abbrev pub is_held : Table V → FileNo → Bool
+  is_held t file = list_any (λ row. keeps_file_open (kind_of row.value)) (rows_of t file)
+
+  -- why the object can't be destroyed
+  abbrev pub destroy_refusal : Table V → FileNo → Kind → ObjId → Option Cause
+  destroy_refusal t file kind id = first_true (
+      (cause.Id, is_none (own t file kind id))
+      ∷ (cause.InUse, option_map_or (λ row. nat_lt 0 row.users) (own t file kind id) false)
+      ∷ [])
+
+  -- why the file can't be closed
+  abbrev pub close_refusal : Table V → FileNo → Option Cause
+  close_refusal t file = first_true ((cause.Id, not (is_open t file)) ∷ (cause.InUse, is_held t file) ∷ [])
 
 -- want of memory comes only where nothing refuses
 abbrev pub IsWhy : Option Cause → CallError → Type 0

@@ -4,12 +4,12 @@ ghost use Rattle.std.specs.Prelude.{◌≡◌, None, Some, IfOk, OnOk, OnErr, If
 ghost use Rattle.std.specs.Option.{option_map};
 
 use crate::file_objects::Entry;
-use crate::kind::Kind;
+use crate::kind::{Kind, Typed};
 use crate::table::{ObjectTable, place_of};
 use iofd_words::{Cause, FileNo, ObjId, Refusal};
 use std::alloc::Allocator;
 
-impl<V, A: Allocator> ObjectTable<V, A> {
+impl<V: Typed, A: Allocator> ObjectTable<V, A> {
     ghost use Rattle.object_table.specs.Table.{own, removed, closed, reserved_id, destroy_refusal, close_refusal};
     ghost use Rattle.object_table.specs.Table.{OthersKeepRoom};
 
@@ -20,15 +20,15 @@ impl<V, A: Allocator> ObjectTable<V, A> {
     /// which there is room.
     pub fn destroy(&mut self, file: FileNo, kind: Kind, id: ObjId) -> Result<V, Refusal>
         ensures value { IfOk result (λ value.
-            option_map (λ row. row.value) (own self.old file kind id) ≡ Some value) }
-        ensures ok { OnOk result (destroy_refusal self.old file kind id ≡ None) }
+            option_map (λ row. row.value) (own V.kind self.old file kind id) ≡ Some value) }
+        ensures ok { OnOk result (destroy_refusal V.kind self.old file kind id ≡ None) }
         ensures rows { OnOk result (self.new.rows ≡ removed file id self.old.rows) }
         ensures files { self.new.files ≡ self.old.files }
         ensures room { OthersKeepRoom file self.old self.new }
         ensures next { OnOk result (reserved_id self.new file ≡ Some id) }
 
         ensures refused { IfErr result (λ refusal.
-            destroy_refusal self.old file kind id ≡ Some refusal.cause) }
+            destroy_refusal V.kind self.old file kind id ≡ Some refusal.cause) }
         ensures unchanged { OnErr result (self.new ≡ self.old) }
     {
         if self.own_entry(file, kind, id)?.users > 0 {
@@ -36,11 +36,7 @@ impl<V, A: Allocator> ObjectTable<V, A> {
                 cause: Cause::InUse,
             });
         }
-        let Entry {
-            kind: _,
-            users: _,
-            value,
-        } = self.files[file.0 as usize - 1].take(id);
+        let Entry { users: _, value } = self.files[file.0 as usize - 1].take(id);
         Ok(value)
     }
 
@@ -52,9 +48,9 @@ impl<V, A: Allocator> ObjectTable<V, A> {
     pub fn close_file(&mut self, file: FileNo) -> Result<(), Refusal>
     where
         V: Drop,
-        ensures ok { OnOk result (close_refusal self.old file ≡ None) }
+        ensures ok { OnOk result (close_refusal V.kind self.old file ≡ None) }
         ensures closed { OnOk result (self.new ≡ closed self.old file) }
-        ensures refused { IfErr result (λ refusal. close_refusal self.old file ≡ Some refusal.cause) }
+        ensures refused { IfErr result (λ refusal. close_refusal V.kind self.old file ≡ Some refusal.cause) }
         ensures unchanged { OnErr result (self.new ≡ self.old) }
     {
         let Some(place) = place_of(file, self.files.len()) else {

@@ -9,7 +9,7 @@ ghost use Rattle.slab.specs.Slab.{entries, slab_len};
 ghost use Rattle.object_table.specs.Table.{IsWhy, inserted, removed, keeps_file_open, greatest_count};
 ghost use Rattle.object_table.specs.Layout.{IsInLimits, entry_at, next_id, file_rows, file_refusal, row_of};
 
-use crate::kind::Kind;
+use crate::kind::Typed;
 use iofd_words::{CallError, Cause, NoMemory, ObjId, Refusal};
 use slab::Slab;
 use std::alloc::{Allocator, Global};
@@ -20,10 +20,9 @@ const GREATEST_COUNT: usize = 65_535;
 /// Keys of the slab below this have an id, which is one more: ids are 1 to 2^31 - 1.
 const KEY_END: usize = 2_147_483_647;
 
-/// An object: its kind, how many use it, and what it holds.
+/// An object: how many use it, and what it holds.
 #[derive(Drop)]
 pub(crate) struct Entry<V> {
-    pub(crate) kind: Kind,
     pub(crate) users: u32,
     pub(crate) value: V,
 }
@@ -140,18 +139,6 @@ impl<V, A: Allocator> FileObjects<V, A> {
         if self.is_open { self.objects.len() } else { 0 }
     }
 
-    /// Whether an object keeps the file from being closed.
-    pub(crate) fn is_held(&self) -> bool
-        ensures { result ≡ list_any (λ e. keeps_file_open e.1.kind) (entries self.now.objects) }
-    {
-        for (_, entry) in self.objects.iter() {
-            if entry.kind.keeps_file_open() {
-                return true;
-            }
-        }
-        false
-    }
-
     /// Drops all objects and gives their memory back.
     pub(crate) fn close(&mut self)
     where
@@ -163,5 +150,19 @@ impl<V, A: Allocator> FileObjects<V, A> {
         self.is_open = false;
         self.objects.clear();
         self.objects.shrink_to_fit();
+    }
+}
+
+impl<V: Typed, A: Allocator> FileObjects<V, A> {
+    /// Whether an object keeps the file from being closed.
+    pub(crate) fn is_held(&self) -> bool
+        ensures { result ≡ list_any (λ e. keeps_file_open (V.kind e.1.value)) (entries self.now.objects) }
+    {
+        for (_, entry) in self.objects.iter() {
+            if entry.value.kind().keeps_file_open() {
+                return true;
+            }
+        }
+        false
     }
 }

@@ -4,7 +4,6 @@ ghost use Rattle.std.specs.Prelude.{◌≡◌, ◌^◌, ◌<◌, None, Some, IsS
 
 use crate::error::InsertError;
 use crate::file_objects::Entry;
-use crate::kind::Kind;
 use crate::table::{ObjectTable, place_of};
 use iofd_words::{CallError, Cause, FileNo, ObjId, Refusal};
 use std::alloc::Allocator;
@@ -39,22 +38,18 @@ impl<V, A: Allocator> ObjectTable<V, A> {
     }
 
     /// Adds an object where room is reserved, with no user, and gives its id. It takes no memory.
-    pub fn insert_reserved(&mut self, file: FileNo, kind: Kind, value: V) -> ObjId
+    pub fn insert_reserved(&mut self, file: FileNo, value: V) -> ObjId
         requires { IsSome (reserved_id self.old file) }
         ensures id { reserved_id self.old file ≡ Some result }
         ensures in_range { (0 < result.0) × (result.0 < 2 ^ 31) }
         ensures unused { row_at self.old file result ≡ None }
 
         ensures rows { self.new.rows ≡ inserted
-            (record { file = file; id = result; kind = kind; users = 0; value = value }) self.old.rows }
+            (record { file = file; id = result; users = 0; value = value }) self.old.rows }
         ensures files { self.new.files ≡ self.old.files }
         ensures room { OthersKeepRoom file self.old self.new }
     {
-        let entry = Entry {
-            kind,
-            users: 0,
-            value,
-        };
+        let entry = Entry { users: 0, value };
         self.files[file.0 as usize - 1].add(entry)
     }
 
@@ -64,12 +59,12 @@ impl<V, A: Allocator> ObjectTable<V, A> {
     /// Refused, in this order: Id (11, ENOENT) where the file is closed or unknown; Full (23, ENOSPC) where it has
     /// 65,535 objects. Where nothing refuses, the table may have to grow and find no memory. An error hands the
     /// value back and changes nothing: it leaves no room reserved either.
-    pub fn insert(&mut self, file: FileNo, kind: Kind, value: V) -> Result<ObjId, InsertError<V>>
+    pub fn insert(&mut self, file: FileNo, value: V) -> Result<ObjId, InsertError<V>>
         ensures in_range { IfOk result (λ id. (0 < id.0) × (id.0 < 2 ^ 31)) }
         ensures unused { IfOk result (λ id. row_at self.old file id ≡ None) }
         ensures ok { OnOk result (insert_refusal self.old file ≡ None) }
         ensures rows { IfOk result (λ id. self.new.rows ≡ inserted
-            (record { file = file; id = id; kind = kind; users = 0; value = value }) self.old.rows) }
+            (record { file = file; id = id; users = 0; value = value }) self.old.rows) }
 
         ensures why { IfErr result (λ error. IsWhy (insert_refusal self.old file) error.reason) }
         ensures value_returned { IfErr result (λ error. error.value ≡ value) }
@@ -81,7 +76,7 @@ impl<V, A: Allocator> ObjectTable<V, A> {
             IfOk result (λ id. reserved_id self.old file ≡ Some id) × IsOk result }
     {
         match self.reserve(file) {
-            Ok(_) => Ok(self.insert_reserved(file, kind, value)),
+            Ok(_) => Ok(self.insert_reserved(file, value)),
             Err(reason) => Err(InsertError { reason, value }),
         }
     }

@@ -5,7 +5,6 @@ ghost use Rattle.std.specs.Iterator.{YieldsFirstBy, UpTo, at_most, item_count};
 ghost use Rattle.std.specs.Iterator.SizeHint.{IsWithinCount};
 
 use crate::file_objects::Entry;
-use crate::kind::Kind;
 use crate::table::{ObjectTable, place_of};
 use iofd_words::{FileNo, ObjId};
 use std::alloc::Allocator;
@@ -18,8 +17,6 @@ pub struct ObjectRef<'a, V> {
     pub file: FileNo,
     /// Its id in that file.
     pub id: ObjId,
-    /// Its kind.
-    pub kind: Kind,
     /// How many use it.
     pub users: u32,
     /// What it holds.
@@ -64,7 +61,6 @@ impl<'a, V> Iterator for Objects<'a, V> {
         Some(ObjectRef {
             file: self.file,
             id: ObjId(key as u32 + 1),
-            kind: entry.kind,
             users: entry.users,
             value: &entry.value,
         })

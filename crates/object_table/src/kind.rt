@@ -16,6 +16,18 @@ pub enum Kind {
     Access,
 }
 
+/// A value that tells of which kind the object is that holds it. The table keeps no kind beside it.
+pub trait Typed {
+    ghost use Rattle.object_table.specs.declared.kind.Kind.{Kind};
+
+    /// The kind of the object.
+    ghost kind: { Self → Kind };
+
+    /// The kind of the object.
+    fn kind(&self) -> Kind
+        ensures { result ≡ kind self.now };
+}
+
 impl Kind {
     /// Whether both are one kind.
     pub(crate) fn is_same(self, other: Kind) -> bool

@@ -2,7 +2,7 @@
 //!
 //! Ids are unique in a file and say nothing in another file, as `Documentation/userspace-api/iommufd.rst`
 //! has it: each open of the iommu device has its own ids. Contracts see the whole table as a list of rows
-//! (file, id, kind, users, value) by rising file and then rising id.
+//! (file, id, users, value) by rising file and then rising id. The kind of an object is what its value tells (`Typed`).
 #![tactic(auto)]
 
 mod close;
@@ -16,5 +16,5 @@ mod users;
 
 pub use error::InsertError;
 pub use iter::{ObjectRef, Objects};
-pub use kind::Kind;
+pub use kind::{Kind, Typed};
 pub use table::ObjectTable;

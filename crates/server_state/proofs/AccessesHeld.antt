@@ -1,7 +1,7 @@
 -- What an access object that is attached or detached leaves of the rows of the table.
 use Rattle.std.proofs.Common.{◌≡◌, ℕ, ◌+◌, ◌-◌, ◌<◌, Bool, true, false, cond, ◌||◌, not, eqb, Option, Some, None, List}
 use Rattle.std.proofs.Common.{[], ◌∷◌, map, IfSome, refl, sym, ◌∙◌, ap, arith}
-use Rattle.std.specs.List.{find, list_all, list_any}
+use Rattle.std.specs.List.{find, list_any}
 use Rattle.std.specs.Option.{option_map}
 use Rattle.std.proofs.lemmas.Bool.Decides.{nat_tests}
 use Rattle.iofd_rows.proofs.Accesses.{test_reattached}
@@ -14,15 +14,15 @@ use Rattle.iofd_words.specs.declared.numbers.ObjId.{ObjId}
 use Rattle.iofd_words.specs.declared.rows.Object.{Object}
 use Rattle.iofd_words.specs.declared.rows.ObjectKind.{ObjectKind}
 use Rattle.iofd_words.specs.declared.rows.ObjectKind.TheVariants as kind
-use Rattle.object_table.specs.Table.{Row, Table, changed_at, is_at, is_own, is_same_kind, own, with_users, with_value}
+use Rattle.object_table.specs.Table.{Row, Table, changed_at, is_at, with_users, with_value}
 use Rattle.object_table.specs.declared.kind.Kind.TheVariants as of_kind
 use Rattle.server_state.proofs.AreasHeld.{areas_elsewhere, areas_here, not_there, own_is_first, same_at, users_kept}
-use Rattle.server_state.proofs.Counted.{areas-counted, objects-counted, own_row, proper-counted, space_row}
+use Rattle.server_state.proofs.Counted.{areas-counted, objects-counted, own_row, space_row}
 use Rattle.server_state.proofs.Counted.{users_elsewhere, users_here, where_found}
 use Rattle.server_state.proofs.Objects.{kind_at, kind_of_rows}
 use Rattle.server_state.proofs.TableRows.{areas_of_other}
 use Rattle.server_state.specs.Accesses.{HasAccess, one_at}
-use Rattle.server_state.specs.Held.{areas_at, is_proper, kind_in, object_of, objects_in, table_kind}
+use Rattle.server_state.specs.Held.{areas_at, is_own, kind_in, object_of, objects_in, own}
 use Rattle.server_state.specs.Spaces.{IsOrderly, is_space}
 use Rattle.server_state.specs.Users.{users_at}
 use Rattle.server_state.specs.declared.held.Held.{Held}
@@ -82,33 +82,6 @@ module _ {A : Type 0} (file : FileNo) (id : ObjId) (before attached : Option Obj
           refl
       by_test false here none is later = rw (here, later is) refl
 
-  proper_set : (rows : List (Row (Held A))) → have_own_ids (map object_of rows) ≡ true
-      → kind_of (map object_of rows) file id ≡ Some (kind.Access before) → list_all is_proper rows ≡ true
-      → list_all is_proper (set_at rows) ≡ true
-  proper_set [] ids is proper = refl
-  proper_set (row ∷ rows) ids is proper =
-      let owns = and_true (not (list_any (is_object row.file row.id) (map object_of rows)))
-      (have_own_ids (map object_of rows)) ids in
-      let propers = and_true (is_proper row) (list_all is_proper rows) proper in
-      by_test (is_at file id row) refl (not_true _ owns.0) is propers.0 propers.1
-      (λ later. proper_set rows owns.1 later propers.1)
-    where
-      rest : List Object
-      rest = map object_of rows
-
-      by_test : (b : Bool) → is_at file id row ≡ b → list_any (is_object row.file row.id) rest ≡ false
-          → elim (cond b (Some (object_of row)) (find (is_object file id) rest)) as (λ _. Option ObjectKind)
-          [ Some o ↦ Some o.kind | None ↦ None ] ≡ Some (kind.Access before)
-          → is_same_kind row.kind (table_kind (kind_in row.value)) ≡ true → list_all is_proper rows ≡ true
-          → (kind_of rest file id ≡ Some (kind.Access before) → list_all is_proper (set_at rows) ≡ true)
-          → list_all is_proper (set_at (row ∷ rows)) ≡ true
-      by_test true here none is proper all later =
-          let others = sym (same_at row file id rest here) ∙ none in
-          let was : kind_in row.value ≡ kind.Access before = cc in
-          let same : is_same_kind row.kind of_kind.Access ≡ true = rw was at proper in
-          rw (here, not_there rows file id (with_value now) others, same) all
-      by_test false here none is proper all later = rw (here, proper) (later is)
-
   -- an access object has no areas, whether it is attached or not
   areas_set : (rows : List (Row (Held A))) (old : Held A)
       → option_map (λ (row : Row (Held A)). row.value) (find (is_at file id) rows) ≡ Some old
@@ -141,18 +114,17 @@ attachment_set {A = A} table file id attached old new found becomes orderly has 
     ap (λ (o : Option ObjectKind). elim o as (λ _. Bool) [ Some k ↦ is_access k | None ↦ false ]) (sym of_old) ∙ has in
     rw (becomes access) (record {
       objects = objects_set file id before attached table.rows orderly.ids is;
-      proper = proper_set file id before attached table.rows orderly.ids is orderly.proper;
       areas = areas_set file id before attached table.rows old first is;
       files = refl;
       users = λ f i. users_kept table.rows file id (held.Access attached) f i;
     })
 
 -- without an access object nothing is set
-pub no_attachment : {A : Type 0} (table : Table (Held A)) (file : FileNo) (id : ObjId) → IsOrderly table
+pub no_attachment : {A : Type 0} (table : Table (Held A)) (file : FileNo) (id : ObjId)
     → own table file of_kind.Access id ≡ None → has_access (objects_in table) file id ≡ true → ⊥
-no_attachment table file id orderly none has =
+no_attachment table file id none has =
     let (before, is) = access_of (kind_of (objects_in table) file id) has in
-    let (row, found, there) = own_row table.rows file id (kind.Access before) orderly.proper is in
+    let (row, found, there) = own_row table.rows file id (kind.Access before) is in
     cc
 
 -- ---- and a user more or fewer is counted
@@ -166,7 +138,7 @@ module _ {A : Type 0} (old base new : Table (Held A)) (file : FileNo) (id ioas :
 
   its_row : (row : Row (Held A)) × (find (is_own file of_kind.Ioas ioas) base.rows ≡ Some row)
       × (find (is_at file ioas) base.rows ≡ Some row)
-  its_row = space_row base.rows file ioas set.proper space_set
+  its_row = space_row base.rows file ioas space_set
 
   abbrev users_from : Option (Row (Held A)) → ℕ
   users_from o = elim o [ Some row ↦ row.users | None ↦ 0 ]
@@ -180,7 +152,6 @@ module _ {A : Type 0} (old base new : Table (Held A)) (file : FileNo) (id ioas :
       → HasAccess file id attached counts old new
   counted n counts rows here there = record {
     objects = ap (map object_of) rows ∙ objects-counted base.rows file ioas n ∙ set.objects;
-    proper = ap (list_all is_proper) rows ∙ proper-counted base.rows file ioas n ∙ set.proper;
     areas = λ f i. ap (λ (l : List (Row (Held A))). areas_at l f i) rows
         ∙ areas-counted base.rows file ioas n f i ∙ set.areas f i;
     files = ap (λ (t : Table (Held A)). t.files) others ∙ set.files;

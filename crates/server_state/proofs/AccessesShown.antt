@@ -147,7 +147,6 @@ module _ {A : Type 0} (at : ℕ) (w : World) (s : State A) (file : FileNo) (id :
         allowed = shows.allowed;
         objects = record {
           rows = ap (with_access file id attached) shows.objects.rows ∙ sym has.objects;
-          proper = has.proper;
           spaces = λ f i. shows.objects.spaces f i ∙ sym (has.areas f i);
           files = λ number. rw has.files (shows.objects.files number);
           counted = λ f i. has.users f i ∙ counted f i;

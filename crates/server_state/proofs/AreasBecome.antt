@@ -9,13 +9,12 @@ use Rattle.iofd_words.specs.declared.numbers.FileNo.{FileNo}
 use Rattle.iofd_words.specs.declared.numbers.ObjId.{ObjId}
 use Rattle.iofd_words.specs.declared.rows.Area.{Area}
 use Rattle.server_state.proofs.AreasHeld.{areas_absent, areas_found}
-use Rattle.server_state.specs.Held.{areas_at, areas_in}
+use Rattle.server_state.specs.Held.{areas_at, areas_in, own}
 use Rattle.server_state.specs.Mapping.{own_areas}
 use Rattle.server_state.specs.Shows.{Shows}
 use Rattle.server_state.specs.Spaces.{HasAreas, IsOrderly, is_space}
 use Rattle.server_state.specs.declared.held.Held.{Held}
 use Rattle.server_state.specs.declared.state.State.{State}
-use Rattle.object_table.specs.Table as table
 use Rattle.object_table.specs.Table.{Row, Table}
 use Rattle.object_table.specs.declared.kind.Kind.TheVariants.{Ioas}
 
@@ -23,11 +22,11 @@ module _ {A : Type 0} where
   -- the areas of an address space are those at its id
   pub own_at : (t : Table (Held A)) (file : FileNo) (ioas : ObjId) → IsOrderly t
       → own_areas t file ioas ≡ areas_at t.rows file ioas
-  own_at t file ioas is = by_row (table.own t file Ioas ioas) refl
+  own_at t file ioas is = by_row (own t file Ioas ioas) refl
     where
-      by_row : (o : Option (Row (Held A))) → table.own t file Ioas ioas ≡ o
+      by_row : (o : Option (Row (Held A))) → own t file Ioas ioas ≡ o
           → elim o as (λ _. List Area) [ Some row ↦ areas_in row.value | None ↦ [] ] ≡ areas_at t.rows file ioas
-      by_row None found = sym (areas_absent t file ioas is found)
+      by_row None found = sym (areas_absent t file ioas found)
       by_row (Some row) found =
           sym (areas_found t file Ioas ioas row.value is (ap (option_map (λ (r : Row (Held A)). r.value)) found))
 

@@ -1,7 +1,7 @@
 -- What a change of one address space's areas leaves as it was.
 use Rattle.std.proofs.Common.{◌≡◌, Bool, true, false, cond, ◌&&◌, not, Some, None, List, [], ◌∷◌, map, refl, sym}
 use Rattle.std.proofs.Common.{◌∙◌, ap, arith}
-use Rattle.std.specs.List.{find, list_all, list_any}
+use Rattle.std.specs.List.{find, list_any}
 use Rattle.std.specs.Option.{option_map}
 use Rattle.std.proofs.lemmas.Bool.Decides.{nat_tests}
 use Rattle.iofd_rows.proofs.Bools.{and_true, not_true}
@@ -11,13 +11,13 @@ use Rattle.iofd_words.specs.declared.numbers.FileNo.{FileNo}
 use Rattle.iofd_words.specs.declared.numbers.ObjId.{ObjId}
 use Rattle.iofd_words.specs.declared.rows.Area.{Area}
 use Rattle.iofd_words.specs.declared.rows.Object.{Object}
-use Rattle.server_state.specs.Held.{is_proper, areas_at, areas_in, kind_in, object_of, objects_in}
+use Rattle.server_state.specs.Held.{areas_at, areas_in, held_kind, is_own, kind_in, object_of, objects_in, own}
 use Rattle.server_state.specs.Spaces.{IsOrderly, IsWith, HasAreas, is_space}
 use Rattle.server_state.specs.Users.{users_at}
 use Rattle.server_state.specs.declared.held.Held.{Held}
 use Rattle.server_state.specs.declared.held.Held.TheVariants as held
 use Rattle.server_state.proofs.Objects.{areas_at_rows, areas_of_held, kind_at, kind_of_rows}
-use Rattle.object_table.specs.Table.{Row, Table, is_at, is_own, is_same_kind, changed_at, with_value, own}
+use Rattle.object_table.specs.Table.{Row, Table, is_at, is_same_kind, changed_at, with_value}
 use Rattle.object_table.specs.declared.kind.Kind.{Kind}
 use Rattle.object_table.specs.declared.kind.Kind.TheVariants as tablekind
 
@@ -43,7 +43,8 @@ module _ {A : Type 0} where
       (old : Held A) → is_at file id row ≡ true → find (is_own file kind id) rows ≡ None
       → option_map (λ (r : Row (Held A)). r.value) (find (is_own file kind id) (row ∷ rows)) ≡ Some old
       → row.value ≡ old
-  first_there row rows file kind id old is none found = by_kind (is_same_kind row.kind kind) (rw (is, none) at found)
+  first_there row rows file kind id old is none found =
+      by_kind (is_same_kind (held_kind row.value) kind) (rw (is, none) at found)
     where
       by_kind : (b : Bool) → option_map (λ (r : Row (Held A)). r.value) (cond b (Some row) None) ≡ Some old
           → row.value ≡ old
@@ -107,7 +108,7 @@ module _ {A : Type 0} where
   found_first (row ∷ rows) file kind id found ids is =
       let owns = and_true (not (list_any (is_object row.file row.id) (map object_of rows)))
       (have_own_ids (map object_of rows)) ids in
-      by_tests (is_at file id row) (is_same_kind row.kind kind) refl (not_true _ owns.0) is
+      by_tests (is_at file id row) (is_same_kind (held_kind row.value) kind) refl (not_true _ owns.0) is
       (λ later. found_first rows file kind id found owns.1 later)
     where
       by_tests : (b k : Bool) → is_at file id row ≡ b
@@ -141,31 +142,6 @@ module _ {A : Type 0} where
   areas_elsewhere (row ∷ rows) file id new f i other =
       let rest = areas_elsewhere rows file id new f i other in grind (arith, nat_tests)
 
-  proper_kept : (rows : List (Row (Held A))) (file : FileNo) (kind : Kind) (id : ObjId) (old new : Held A)
-      → have_own_ids (map object_of rows) ≡ true
-      → option_map (λ (row : Row (Held A)). row.value) (find (is_own file kind id) rows) ≡ Some old
-      → kind_in new ≡ kind_in old
-      → list_all is_proper rows ≡ true → list_all is_proper (changed_at file id (with_value new) rows) ≡ true
-  proper_kept [] file kind id old new ids found same proper = refl
-  proper_kept (row ∷ rows) file kind id old new ids found same proper =
-      let owns = and_true (not (list_any (is_object row.file row.id) (map object_of rows)))
-      (have_own_ids (map object_of rows)) ids in
-      let propers = and_true (is_proper row) (list_all is_proper rows) proper in
-      by_test (is_at file id row) refl (not_true _ owns.0) propers.0 propers.1
-      (λ later. proper_kept rows file kind id old new owns.1 later same propers.1)
-    where
-      by_test : (b : Bool) → is_at file id row ≡ b → list_any (is_object row.file row.id) (map object_of rows) ≡ false
-          → is_proper row ≡ true → list_all is_proper rows ≡ true
-          → (option_map (λ (r : Row (Held A)). r.value) (find (is_own file kind id) rows) ≡ Some old
-          → list_all is_proper (changed_at file id (with_value new) rows) ≡ true)
-          → list_all is_proper (changed_at file id (with_value new) (row ∷ rows)) ≡ true
-      by_test true is none proper rest later =
-          let others = sym (same_at row file id (map object_of rows) is) ∙ none in
-          let value = first_there row rows file kind id old is (none_own rows file kind id others) found in
-          rw (is, not_there rows file id (with_value new) others, same, ← value, proper) rest
-      by_test false is none proper rest later =
-          rw (is, proper) (later (rw (not_first row rows file kind id is) at found))
-
   -- what an object holds isn't how many use it
   pub users_kept : (rows : List (Row (Held A))) (file : FileNo) (id : ObjId) (new : Held A) (f : FileNo) (i : ObjId)
       → users_at (changed_at file id (with_value new) rows) f i ≡ users_at rows f i
@@ -190,7 +166,6 @@ module _ {A : Type 0} where
   written table file kind ioas old new areas orderly found with =
       record {
         objects = objects_kept table.rows file kind ioas old new orderly.ids found with.kind;
-        proper = proper_kept table.rows file kind ioas old new orderly.ids found with.kind orderly.proper;
         here = areas_here table.rows file ioas old new (own_is_first table.rows file kind ioas old orderly.ids found)
             ∙ with.has;
         others = λ f i other. areas_elsewhere table.rows file ioas new f i other;
@@ -199,12 +174,11 @@ module _ {A : Type 0} where
       }
 
   -- nothing is changed
-  pub unwritten : (table : Table (Held A)) (file : FileNo) (ioas : ObjId) (areas : List Area) → IsOrderly table
+  pub unwritten : (table : Table (Held A)) (file : FileNo) (ioas : ObjId) (areas : List Area)
       → areas_at table.rows file ioas ≡ areas → HasAreas file ioas areas table table
-  unwritten table file ioas areas orderly same =
+  unwritten table file ioas areas same =
       record {
         objects = refl;
-        proper = orderly.proper;
         here = same;
         others = λ f i other. refl;
         files = refl;
@@ -219,38 +193,31 @@ module _ {A : Type 0} where
       ∙ ap areas_of_held (own_is_first table.rows file kind ioas old orderly.ids found)
 
   -- no row at this id is an address space
-  no_areas : (row : Row (Held A)) (held : Held A) → row.value ≡ held → is_proper row ≡ true
-      → is_same_kind row.kind tablekind.Ioas ≡ false → areas_in held ≡ []
-  no_areas row (held.Ioas areas) is proper other =
-      let same = rw is at proper in
-      absurd (differ (sym other ∙ same))
-    where
-      differ : false ≡ true → ⊥
-      differ is = cc
-  no_areas row (held.Hwpt ioas width automatic) is proper other = refl
-  no_areas row (held.Device device) is proper other = refl
-  no_areas row (held.Access attached) is proper other = refl
+  no_areas : (held : Held A) → is_same_kind (held_kind held) tablekind.Ioas ≡ false → areas_in held ≡ []
+  no_areas (held.Ioas areas) other = cc
+  no_areas (held.Hwpt ioas width automatic) other = refl
+  no_areas (held.Device device) other = refl
+  no_areas (held.Access attached) other = refl
 
-  absent : (rows : List (Row (Held A))) (file : FileNo) (ioas : ObjId) → list_all is_proper rows ≡ true
+  absent : (rows : List (Row (Held A))) (file : FileNo) (ioas : ObjId)
       → find (is_own file tablekind.Ioas ioas) rows ≡ None → areas_at rows file ioas ≡ []
-  absent [] file ioas proper none = refl
-  absent (row ∷ rows) file ioas proper none =
-      let propers = and_true (is_proper row) (list_all is_proper rows) proper in
-      by_tests (is_at file ioas row) (is_same_kind row.kind tablekind.Ioas) refl refl none propers.0
-      (λ later. absent rows file ioas propers.1 later)
+  absent [] file ioas none = refl
+  absent (row ∷ rows) file ioas none =
+      by_tests (is_at file ioas row) (is_same_kind (held_kind row.value) tablekind.Ioas) refl refl none
+      (absent rows file ioas)
     where
-      by_tests : (b k : Bool) → is_at file ioas row ≡ b → is_same_kind row.kind tablekind.Ioas ≡ k
-          → cond (b && k) (Some row) (find (is_own file tablekind.Ioas ioas) rows) ≡ None → is_proper row ≡ true
+      by_tests : (b k : Bool) → is_at file ioas row ≡ b → is_same_kind (held_kind row.value) tablekind.Ioas ≡ k
+          → cond (b && k) (Some row) (find (is_own file tablekind.Ioas ioas) rows) ≡ None
           → (find (is_own file tablekind.Ioas ioas) rows ≡ None → areas_at rows file ioas ≡ [])
           → areas_at (row ∷ rows) file ioas ≡ []
-      by_tests true true is kind none proper later = cc
-      by_tests true false is kind none proper later = rw (areas_at, is) (no_areas row row.value refl proper kind)
-      by_tests false k is kind none proper later = rw (areas_at, is) (later none)
+      by_tests true true is kind none later = cc
+      by_tests true false is kind none later = rw (areas_at, is) (no_areas row.value kind)
+      by_tests false k is kind none later = rw (areas_at, is) (later none)
 
   -- where there is no address space there are no areas
-  pub areas_absent : (table : Table (Held A)) (file : FileNo) (ioas : ObjId) → IsOrderly table
+  pub areas_absent : (table : Table (Held A)) (file : FileNo) (ioas : ObjId)
       → own table file tablekind.Ioas ioas ≡ None → areas_at table.rows file ioas ≡ []
-  areas_absent table file ioas orderly found = absent table.rows file ioas orderly.proper found
+  areas_absent table file ioas found = absent table.rows file ioas found
 
   -- the areas are what a function makes of those that were there
   pub rewritten : (change : List Area → List Area) (table : Table (Held A)) (file : FileNo) (kind : Kind) (ioas : ObjId)
@@ -278,31 +245,27 @@ module _ {A : Type 0} where
   space_found table file kind ioas old orderly found has =
       rw (kind_found table file kind ioas old orderly found, has_ioas) at has
 
-  no_ioas : (row : Row (Held A)) (held : Held A) → row.value ≡ held → is_proper row ≡ true
-      → is_same_kind row.kind tablekind.Ioas ≡ false → is_ioas (kind_in held) ≡ false
-  no_ioas row (held.Ioas areas) is proper other =
-      let same : is_same_kind row.kind tablekind.Ioas ≡ true = rw is at proper in
-      cc
-  no_ioas row (held.Hwpt ioas width automatic) is proper other = refl
-  no_ioas row (held.Device device) is proper other = refl
-  no_ioas row (held.Access attached) is proper other = refl
+  no_ioas : (held : Held A) → is_same_kind (held_kind held) tablekind.Ioas ≡ false → is_ioas (kind_in held) ≡ false
+  no_ioas (held.Ioas areas) other = cc
+  no_ioas (held.Hwpt ioas width automatic) other = refl
+  no_ioas (held.Device device) other = refl
+  no_ioas (held.Access attached) other = refl
 
-  none_held : (rows : List (Row (Held A))) (file : FileNo) (ioas : ObjId) → list_all is_proper rows ≡ true
+  none_held : (rows : List (Row (Held A))) (file : FileNo) (ioas : ObjId)
       → find (is_own file tablekind.Ioas ioas) rows ≡ None → has_ioas (map object_of rows) file ioas ≡ false
-  none_held [] file ioas proper none = refl
-  none_held (row ∷ rows) file ioas proper none =
-      let propers = and_true (is_proper row) (list_all is_proper rows) proper in
-      by_tests (is_at file ioas row) (is_same_kind row.kind tablekind.Ioas) refl refl none propers.0
-      (λ later. none_held rows file ioas propers.1 later)
+  none_held [] file ioas none = refl
+  none_held (row ∷ rows) file ioas none =
+      by_tests (is_at file ioas row) (is_same_kind (held_kind row.value) tablekind.Ioas) refl refl none
+      (none_held rows file ioas)
     where
-      by_tests : (b k : Bool) → is_at file ioas row ≡ b → is_same_kind row.kind tablekind.Ioas ≡ k
-          → cond (b && k) (Some row) (find (is_own file tablekind.Ioas ioas) rows) ≡ None → is_proper row ≡ true
+      by_tests : (b k : Bool) → is_at file ioas row ≡ b → is_same_kind (held_kind row.value) tablekind.Ioas ≡ k
+          → cond (b && k) (Some row) (find (is_own file tablekind.Ioas ioas) rows) ≡ None
           → (find (is_own file tablekind.Ioas ioas) rows ≡ None → has_ioas (map object_of rows) file ioas ≡ false)
           → has_ioas (map object_of (row ∷ rows)) file ioas ≡ false
-      by_tests true true is kind none proper later = cc
-      by_tests true false is kind none proper later = rw (has_ioas, is) (no_ioas row row.value refl proper kind)
-      by_tests false k is kind none proper later = rw (has_ioas, is) (later none)
+      by_tests true true is kind none later = cc
+      by_tests true false is kind none later = rw (has_ioas, is) (no_ioas row.value kind)
+      by_tests false k is kind none later = rw (has_ioas, is) (later none)
 
-  pub space_absent : (table : Table (Held A)) (file : FileNo) (ioas : ObjId) → IsOrderly table
+  pub space_absent : (table : Table (Held A)) (file : FileNo) (ioas : ObjId)
       → own table file tablekind.Ioas ioas ≡ None → has_ioas (objects_in table) file ioas ≡ true → ⊥
-  space_absent table file ioas orderly found has = let none = none_held table.rows file ioas orderly.proper found in cc
+  space_absent table file ioas found has = let none = none_held table.rows file ioas found in cc

@@ -7,6 +7,7 @@ use Rattle.std.specs.Option.{option_map}
 use Rattle.std.specs.List.{count_by, find, list_all, list_any}
 use Rattle.std.proofs.lemmas.Bool.Decides.{nat_tests}
 use Rattle.iofd_rows.proofs.Bools.{and_true, not_true}
+use Rattle.iofd_rows.proofs.Each.{in_found}
 use Rattle.iofd_rows.proofs.Found.{found_passes}
 use Rattle.iofd_rows.proofs.Inserted.{count-inserted}
 use Rattle.iofd_rows.proofs.Named.{file_is, id_is}
@@ -25,20 +26,26 @@ use Rattle.iofd_words.specs.declared.rows.ObjectKind.{ObjectKind}
 use Rattle.iofd_words.specs.declared.rows.ObjectKind.TheVariants as kind
 use Rattle.iofd_words.specs.declared.width.Width.{Width}
 use Rattle.user_memory_rows.proofs.CountBy.{any_count, count-cons}
-use Rattle.object_table.specs.Table.{Row, changed_at, inserted, is_at, is_own, is_same_kind, removed}
+use Rattle.object_table.specs.Table.{Row, changed_at, inserted, is_at, is_same_kind, removed}
 use Rattle.object_table.specs.Table.{with_users}
 use Rattle.object_table.specs.declared.kind.Kind.{Kind}
 use Rattle.object_table.specs.declared.kind.Kind.TheVariants as of_kind
 use Rattle.server_state.proofs.AreasHeld.{found_first}
 use Rattle.server_state.proofs.Objects.{kind_at, kind_of_rows}
 use Rattle.server_state.proofs.DevicesOn.{devices-with, devices-without, on_by}
-use Rattle.server_state.specs.Held.{areas_at, is_proper, kind_in, object_of, table_kind}
+use Rattle.server_state.specs.Held.{areas_at, held_kind, is_own, kind_in, object_of, table_kind}
 use Rattle.server_state.specs.Spaces.{is_space}
 use Rattle.server_state.specs.Users.{AreCounted, accesses_to, devices_on, tables_over, users_at}
 use Rattle.server_state.specs.declared.held.Held.{Held}
 
 turned : (a b c d : ℕ) → ◌≡◌ {A = ℕ} (cond (eqb a b && eqb c d) 1 0) (cond (eqb b a && eqb d c) 1 0)
 turned a b c d = grind (arith, nat_tests)
+
+kind_itself : (k : Kind) → is_same_kind k k ≡ true
+kind_itself of_kind.Ioas = refl
+kind_itself of_kind.Hwpt = refl
+kind_itself of_kind.Device = refl
+kind_itself of_kind.Access = refl
 
 -- what holds where something is found
 pub where_found : {X : Type 0} (P : X → Type 0) (o : Option X) (x : X) → o ≡ Some x → IfSome o P → P x
@@ -329,18 +336,6 @@ module _ {A : Type 0} where
       by_test true rest = ap (λ (l : List Object). object_of row ∷ l) rest
       by_test false rest = ap (λ (l : List Object). object_of row ∷ l) rest
 
-  pub proper-counted : (rows : List (Row (Held A))) (file : FileNo) (id : ObjId) (n : ℕ)
-      → list_all is_proper (changed_at file id (with_users n) rows) ≡ list_all is_proper rows
-  proper-counted [] file id n = refl
-  proper-counted (row ∷ rows) file id n = by_test (is_at file id row) (proper-counted rows file id n)
-    where
-      by_test : (b : Bool)
-          → list_all is_proper (changed_at file id (with_users n) rows) ≡ list_all is_proper rows
-          → list_all is_proper (cond b (with_users n row) row ∷ changed_at file id (with_users n) rows)
-          ≡ list_all is_proper (row ∷ rows)
-      by_test true rest = ap (λ b. is_proper row && b) rest
-      by_test false rest = ap (λ b. is_proper row && b) rest
-
   pub areas-counted : (rows : List (Row (Held A))) (file : FileNo) (id : ObjId) (n : ℕ) (f : FileNo) (i : ObjId)
       → areas_at (changed_at file id (with_users n) rows) f i ≡ areas_at rows f i
   areas-counted [] file id n f i = refl
@@ -403,43 +398,39 @@ module _ {A : Type 0} where
   -- ---- the row of an object
 
   pub own_row : (rows : List (Row (Held A))) (file : FileNo) (id : ObjId) (k : ObjectKind)
-      → list_all is_proper rows ≡ true → kind_of (map object_of rows) file id ≡ Some k
+      → kind_of (map object_of rows) file id ≡ Some k
       → (row : Row (Held A)) × (find (is_own file (table_kind k) id) rows ≡ Some row)
       × (find (is_at file id) rows ≡ Some row)
-  own_row [] file id k proper is = cc
-  own_row (row ∷ rows) file id k proper is =
-      let propers = and_true (is_proper row) (list_all is_proper rows) proper in
-      by_test (is_at file id row) refl is propers.0 (λ later. own_row rows file id k propers.1 later)
+  own_row [] file id k is = cc
+  own_row (row ∷ rows) file id k is = by_test (is_at file id row) refl is (own_row rows file id k)
     where
       by_test : (b : Bool) → is_at file id row ≡ b
           → elim (cond b (Some (object_of row)) (find (is_object file id) (map object_of rows)))
           as (λ _. Option ObjectKind) [ Some o ↦ Some o.kind | None ↦ None ] ≡ Some k
-          → is_proper row ≡ true
           → (kind_of (map object_of rows) file id ≡ Some k → (found : Row (Held A))
           × (find (is_own file (table_kind k) id) rows ≡ Some found) × (find (is_at file id) rows ≡ Some found))
           → (found : Row (Held A)) × (find (is_own file (table_kind k) id) (row ∷ rows) ≡ Some found)
           × (find (is_at file id) (row ∷ rows) ≡ Some found)
-      by_test true here is proper later =
+      by_test true here is later =
           let of_kind : kind_in row.value ≡ k = cc in
-          let same : is_same_kind row.kind (table_kind k) ≡ true = rw of_kind at proper in
+          let same : is_same_kind (table_kind (kind_in row.value)) (table_kind k) ≡ true =
+          rw of_kind (kind_itself (table_kind k)) in
           (row, rw (here, same) refl, rw here refl)
-      by_test false here is proper later =
-          let (found, own, at) = later is in (found, rw here own, rw here at)
+      by_test false here is later = let (found, own, at) = later is in (found, rw here own, rw here at)
 
-  -- an object that stands under a kind is of that kind
+  -- an object that is found under a kind is of that kind
   pub own_kind : (rows : List (Row (Held A))) (file : FileNo) (id : ObjId) (k : Kind) (row : Row (Held A))
-      → list_all is_proper rows ≡ true → have_own_ids (map object_of rows) ≡ true
-      → find (is_own file k id) rows ≡ Some row
+      → have_own_ids (map object_of rows) ≡ true → find (is_own file k id) rows ≡ Some row
       → (find (is_at file id) rows ≡ Some row) × (kind_of (map object_of rows) file id ≡ Some (kind_in row.value))
       × (table_kind (kind_in row.value) ≡ k)
-  own_kind rows file id k row proper ids found =
+  own_kind rows file id k row ids found =
       let there = found_first rows file k id row ids found in
-      let passes = found_passes is_proper (is_own file k id) rows row proper found in
-      let own = and_true (is_at file id row) (is_same_kind row.kind k) passes.1 in (
+      let own = and_true (is_at file id row) (is_same_kind (held_kind row.value) k)
+      (in_found (is_own file k id) rows row found).1 in (
         there,
         kind_of_rows rows file id
             ∙ ap (λ (o : Option (Row (Held A))). kind_at (option_map (λ (r : Row (Held A)). r.value) o)) there,
-        sym (kind_is row.kind (table_kind (kind_in row.value)) passes.0) ∙ kind_is row.kind k own.1,
+        kind_is (held_kind row.value) k own.1,
       )
     where
       kind_is : (a b : Kind) → is_same_kind a b ≡ true → a ≡ b
@@ -461,12 +452,12 @@ module _ {A : Type 0} where
       kind_is of_kind.Access of_kind.Access is = refl
 
   -- the row of an address space
-  pub space_row : (rows : List (Row (Held A))) (file : FileNo) (ioas : ObjId) → list_all is_proper rows ≡ true
+  pub space_row : (rows : List (Row (Held A))) (file : FileNo) (ioas : ObjId)
       → has_ioas (map object_of rows) file ioas ≡ true
       → (row : Row (Held A)) × (find (is_own file of_kind.Ioas ioas) rows ≡ Some row)
       × (find (is_at file ioas) rows ≡ Some row)
-  space_row rows file ioas proper has =
-      own_row rows file ioas kind.Ioas proper (by_kind (kind_of (map object_of rows) file ioas) has)
+  space_row rows file ioas has =
+      own_row rows file ioas kind.Ioas (by_kind (kind_of (map object_of rows) file ioas) has)
     where
       by_kind : (o : Option ObjectKind) → elim o as (λ _. Bool) [ Some k ↦ is_ioas k | None ↦ false ] ≡ true
           → o ≡ Some kind.Ioas

@@ -1,10 +1,9 @@
 -- A count changes as a device comes to its page table or leaves it, or as a page table goes: all else of the objects is
 -- shown as before.
-use Rattle.std.proofs.Common.{◌≡◌, ℕ, ◌+◌, ◌-◌, ◌<◌, Bool, true, false, not, eqb, Option, Some, None, List, map, IfSome}
+use Rattle.std.proofs.Common.{◌≡◌, ℕ, ◌+◌, ◌-◌, ◌<◌, Bool, true, false, eqb, Option, Some, None, List, map, IfSome}
 use Rattle.std.proofs.Common.{refl, sym, ◌∙◌, ap, arith}
 use Rattle.std.specs.List.{find, list_all}
 use Rattle.std.proofs.lemmas.Bool.Decides.{nat_tests}
-use Rattle.iofd_rows.proofs.Found.{all_filter}
 use Rattle.iofd_rows.specs.Debts.{attach_once, is_over_space}
 use Rattle.iofd_rows.specs.Ids.{have_own_ids}
 use Rattle.iofd_words.specs.Attachments.{attachment_of, with_attachment, without_attachment}
@@ -19,16 +18,16 @@ use Rattle.iofd_words.specs.declared.rows.Object.{Object}
 use Rattle.iofd_words.specs.declared.rows.ObjectKind.{ObjectKind}
 use Rattle.iofd_words.specs.declared.rows.ObjectKind.TheVariants as kind
 use Rattle.iofd_words.specs.declared.width.Width.{Width}
-use Rattle.object_table.specs.Table.{Row, Table, changed_at, destroy_refusal, is_at, is_own, own, removed, with_users}
+use Rattle.object_table.specs.Table.{Row, Table, changed_at, is_at, removed, with_users}
 use Rattle.object_table.specs.declared.kind.Kind.TheVariants as of_kind
 use Rattle.server_state.proofs.AccessSpaces.{none_to, spaces-without}
 use Rattle.server_state.proofs.Counted.{areas-counted, counts_of, device_comes, device_goes, objects-counted}
-use Rattle.server_state.proofs.Counted.{over_spaces, own_row, proper-counted, some_over, space_row, space_under}
+use Rattle.server_state.proofs.Counted.{over_spaces, own_row, some_over, space_row, space_under}
 use Rattle.server_state.proofs.Counted.{still_none, table_goes, users-removed, users_of_row, where_found}
 use Rattle.server_state.proofs.DevicesOn.{devices-without, on_by}
 use Rattle.server_state.proofs.ObjectsGone.{may_go, objects-removed}
 use Rattle.server_state.proofs.TableRows.{areas_removed}
-use Rattle.server_state.specs.Held.{areas_at, is_proper, object_of, objects_in}
+use Rattle.server_state.specs.Held.{areas_at, destroy_refusal, is_own, object_of, objects_in, own}
 use Rattle.server_state.specs.Shows.{ObjectsShown}
 use Rattle.server_state.specs.Users.{AreCounted, accesses_to, devices_on, users_at}
 use Rattle.server_state.specs.declared.held.Held.{Held}
@@ -48,7 +47,6 @@ module _ {A : Type 0} (settings : Settings) (closed : List FileNo) (objects : Li
       → AreCounted objects others new.rows → ObjectsShown settings closed objects others areas new
   shown_counted others file id n rows files counted = record {
     rows = shown.rows ∙ sym (ap (map object_of) rows ∙ objects-counted table.rows file id n);
-    proper = ap (list_all is_proper) rows ∙ proper-counted table.rows file id n ∙ shown.proper;
     spaces = λ f i. shown.spaces f i
         ∙ sym (ap (λ (l : List (Row (Held A))). areas_at l f i) rows ∙ areas-counted table.rows file id n f i);
     files = λ number. rw files (shown.files number);
@@ -65,7 +63,7 @@ module _ {A : Type 0} (settings : Settings) (closed : List FileNo) (objects : Li
         → new.rows ≡ changed_at a.file a.hwpt (with_users (row.users + 1)) table.rows)
         → ObjectsShown settings closed objects (with_attachment a attachments) areas new
     device_joins few counts =
-        let (row, found, there) = own_row table.rows a.file a.hwpt (kind.Hwpt ioas width automatic) shown.proper
+        let (row, found, there) = own_row table.rows a.file a.hwpt (kind.Hwpt ioas width automatic)
         (ap (λ (l : List Object). kind_of l a.file a.hwpt) (sym shown.rows) ∙ is_kind) in
         let many = users_of_row objects attachments table.rows shown.counted a.file a.hwpt row there in
         let rows : new.rows ≡ changed_at a.file a.hwpt (with_users (row.users + 1)) table.rows =
@@ -84,7 +82,7 @@ module _ {A : Type 0} (settings : Settings) (closed : List FileNo) (objects : Li
         → new.rows ≡ changed_at a.file a.hwpt (with_users (row.users - 1)) table.rows)
         → ObjectsShown settings closed objects (without_attachment device attachments) areas new
     device_leaves device once is counts =
-        let (row, found, there) = own_row table.rows a.file a.hwpt (kind.Hwpt ioas width automatic) shown.proper
+        let (row, found, there) = own_row table.rows a.file a.hwpt (kind.Hwpt ioas width automatic)
         (ap (λ (l : List Object). kind_of l a.file a.hwpt) (sym shown.rows) ∙ is_kind) in
         let many = users_of_row objects attachments table.rows shown.counted a.file a.hwpt row there in
         let all = devices-without attachments device a a.file a.hwpt once is in
@@ -110,7 +108,7 @@ module _ {A : Type 0} (settings : Settings) (closed : List FileNo) (objects : Li
       (files : new.files ≡ base.files) where
     its_space : (row : Row (Held A)) × (find (is_own file of_kind.Ioas ioas) table.rows ≡ Some row)
         × (find (is_at file ioas) table.rows ≡ Some row)
-    its_space = space_row table.rows file ioas shown.proper
+    its_space = space_row table.rows file ioas
         (ap (λ (l : List Object). has_ioas l file ioas) (sym shown.rows)
         ∙ space_under objects file id ioas width automatic over is_kind)
 
@@ -125,10 +123,6 @@ module _ {A : Type 0} (settings : Settings) (closed : List FileNo) (objects : Li
     objects_base : objects ≡ objects_in base
     objects_base = shown.rows ∙ sym (ap (map object_of) base_rows
         ∙ objects-counted table.rows file ioas (its_space.0.users - 1))
-
-    proper_base : list_all is_proper base.rows ≡ true
-    proper_base = ap (list_all is_proper) base_rows
-        ∙ proper-counted table.rows file ioas (its_space.0.users - 1) ∙ shown.proper
 
     kind_base : kind_of (objects_in base) file id ≡ Some (kind.Hwpt ioas width automatic)
     kind_base = ap (λ (l : List Object). kind_of l file id) (sym objects_base) ∙ is_kind
@@ -147,14 +141,12 @@ module _ {A : Type 0} (settings : Settings) (closed : List FileNo) (objects : Li
         (omega (arith, here, above, none_attached, unused))
 
     rows : new.rows ≡ removed file id base.rows
-    rows = goes (may_go base file id (kind.Hwpt ioas width automatic) proper_base kind_base none_base)
+    rows = goes (may_go base file id (kind.Hwpt ioas width automatic) kind_base none_base)
 
     pub table_leaves : ObjectsShown settings closed (without_object file id objects) attachments areas new
     table_leaves = record {
       rows = ap (without_object file id) objects_base ∙ sym (objects-removed base.rows file id)
           ∙ ap (map object_of) (sym rows);
-      proper = ap (list_all is_proper) rows ∙ all_filter is_proper (λ row. not (is_at file id row)) base.rows
-          proper_base;
       spaces = λ f i. shown.spaces f i
           ∙ sym (ap (λ (l : List (Row (Held A))). areas_at l f i) rows
           ∙ areas_removed base.rows file id ioas width automatic kind_base f i

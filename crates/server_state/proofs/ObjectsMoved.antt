@@ -2,7 +2,7 @@
 use Rattle.std.proofs.Common.{ℕ, ◌+◌}
 use Rattle.std.proofs.Common.{◌≡◌, ◌<◌, ◌^◌, is_some, Vec, true, false, leb, Option, Some, None, List, []}
 use Rattle.std.proofs.Common.{◌∷◌, map, refl, sym, ◌∙◌, ap, arith}
-use Rattle.std.specs.List.{find, list_all, list_any}
+use Rattle.std.specs.List.{find, list_any}
 use Rattle.std.specs.Option.{option_map}
 use Rattle.std.proofs.lemmas.Bool.Decides.{nat_tests}
 use Rattle.iofd_words.specs.Objects.{access_ioas, binding_of, comes_before, is_bound_as, is_fresh, is_hwpt, is_object}
@@ -13,7 +13,7 @@ use Rattle.iofd_words.specs.declared.numbers.FileNo.{FileNo}
 use Rattle.iofd_words.specs.declared.numbers.ObjId.{ObjId}
 use Rattle.iofd_words.specs.declared.rows.Object.{Object}
 use Rattle.iofd_words.specs.declared.rows.ObjectKind.{ObjectKind}
-use Rattle.iofd_rows.proofs.Inserted.{all-inserted, filter-inserted, map-inserted}
+use Rattle.iofd_rows.proofs.Inserted.{filter-inserted, map-inserted}
 use Rattle.iofd_rows.proofs.PageTables.{same_hwpt}
 use Rattle.user_memory_rows.proofs.FramesFollow.{pins_moved, translated_same}
 use Rattle.server_state.proofs.Objects.{kind_at, kind_of_rows}
@@ -21,13 +21,13 @@ use Rattle.server_state.proofs.PageTables.{over_no_other}
 use Rattle.server_state.proofs.AccessSpaces.{spaces-with, unnamed}
 use Rattle.server_state.proofs.Counted.{over-beside, to-beside, users-inserted}
 use Rattle.server_state.specs.Devices.{are_bindings}
-use Rattle.server_state.specs.Held.{is_proper, areas_at, areas_in, object_of}
+use Rattle.server_state.specs.Held.{areas_at, areas_in, object_of}
 use Rattle.server_state.specs.Shows.{Shows}
 use Rattle.server_state.specs.Tables.{page_tables_among}
 use Rattle.server_state.specs.Users.{accesses_to, devices_on, tables_over, users_at}
 use Rattle.server_state.specs.declared.held.Held.{Held}
 use Rattle.server_state.specs.declared.state.State.{State}
-use Rattle.object_table.specs.Table.{Row, Table, inserted, is_at, stands_before}
+use Rattle.object_table.specs.Table.{Row, Table, inserted, is_at}
 use Rattle.iofd_runs.proofs.Accessed.{EachHeld, HoldersStay}
 use Rattle.server_state.proofs.AccessPinsStay.{shown_still}
 use Rattle.user_memory_rows.proofs.AccessCounts.{counted_objects}
@@ -44,10 +44,6 @@ module _ {A : Type 0} where
       → map object_of (inserted row rows) ≡ with_object (object_of row) (map object_of rows)
   objects-inserted row rows = map-inserted object_of comes_before row rows
 
-  pub proper-inserted : (row : Row (Held A)) (rows : List (Row (Held A))) → is_proper row ≡ true
-      → list_all is_proper rows ≡ true → list_all is_proper (inserted row rows) ≡ true
-  proper-inserted row rows = all-inserted stands_before is_proper row rows
-
   -- an object that has no areas, under an unused id
   pub areas-inserted : (row : Row (Held A)) (rows : List (Row (Held A))) (file : FileNo) (id : ObjId)
       → areas_in row.value ≡ [] → find (is_at row.file row.id) rows ≡ None
@@ -58,7 +54,7 @@ module _ {A : Type 0} where
 
   -- one that no other id is like, in its file
   pub shows_inserted : (w : World) (s : State A) (row : Row (Held A)) (table : Table (Held A)) (bindings : Vec Object A)
-      → Shows w s → is_proper row ≡ true → row.users ≡ 0 → areas_in row.value ≡ []
+      → Shows w s → row.users ≡ 0 → areas_in row.value ≡ []
       → find (is_at row.file row.id) s.objects.rows ≡ None
       → is_hwpt (object_of row).kind ≡ false → access_ioas (object_of row).kind ≡ None
       → table.rows ≡ inserted row s.objects.rows → table.files ≡ s.objects.files
@@ -69,14 +65,13 @@ module _ {A : Type 0} where
       → EachHeld w.objects w.areas w.access_pins
       → Shows (record w { objects = with_object (object_of row) w.objects })
       (record s { objects = table; bindings = bindings })
-  shows_inserted w s row table bindings shows proper no_users none unused no_table unattached rows files bound rising
+  shows_inserted w s row table bindings shows no_users none unused no_table unattached rows files bound rising
       stay held =
       record {
         settings = shows.settings;
         objects = record {
           rows = ap (with_object (object_of row)) shows.objects.rows ∙ sym (objects-inserted row s.objects.rows)
               ∙ ap (map object_of) (sym rows);
-          proper = rw rows (proper-inserted row s.objects.rows proper shows.objects.proper);
           spaces = λ file id. shows.objects.spaces file id ∙ sym (areas-inserted row s.objects.rows file id none unused)
               ∙ ap (λ l. areas_at l file id) (sym rows);
           files = λ number. rw files (shows.objects.files number);

@@ -8,4 +8,4 @@ use Rattle.server_state.specs.declared.state.State.{State}
 
 module _ {A : Type 0} where
   pub orderly : (at : ℕ) (w : World) (s : State A) → IsTidy at w → Shows w s → IsOrderly s.objects
-  orderly at w s tidy shows = record { proper = shows.objects.proper; ids = rw shows.objects.rows at tidy.ids }
+  orderly at w s tidy shows = record { ids = rw shows.objects.rows at tidy.ids }

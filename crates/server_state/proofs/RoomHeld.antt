@@ -5,11 +5,11 @@ use Rattle.std.specs.Option.{option_map}
 use Rattle.std.proofs.lemmas.Bool.Decides.{nat_tests}
 use Rattle.iofd_words.specs.declared.numbers.FileNo.{FileNo}
 use Rattle.iofd_words.specs.declared.numbers.ObjId.{ObjId}
-use Rattle.server_state.specs.Held.{room_at, room_in}
+use Rattle.server_state.specs.Held.{own, room_at, room_in}
 use Rattle.server_state.specs.Spaces.{IsOrderly}
 use Rattle.server_state.specs.declared.held.Held.{Held}
 use Rattle.server_state.proofs.AreasHeld.{own_is_first}
-use Rattle.object_table.specs.Table.{Row, Table, is_at, changed_at, with_value, own}
+use Rattle.object_table.specs.Table.{Row, Table, is_at, changed_at, with_value}
 use Rattle.object_table.specs.declared.kind.Kind.{Kind}
 
 module _ {A : Type 0} where

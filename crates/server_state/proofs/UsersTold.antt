@@ -14,14 +14,14 @@ use Rattle.iofd_words.specs.declared.rows.Attachment.{Attachment}
 use Rattle.iofd_words.specs.declared.rows.Object.{Object}
 use Rattle.iofd_words.specs.declared.rows.ObjectKind.{ObjectKind}
 use Rattle.iofd_words.specs.declared.rows.ObjectKind.TheVariants as kind
-use Rattle.object_table.specs.Table.{Row, own}
+use Rattle.object_table.specs.Table.{Row}
 use Rattle.object_table.specs.declared.kind.Kind.{Kind}
 use Rattle.object_table.specs.declared.kind.Kind.TheVariants as of_kind
 use Rattle.server_state.proofs.AreasHeld.{space_absent}
 use Rattle.server_state.proofs.Counted.{counts_of, has_over, has_to, own_kind, own_row, over_spaces, users_of_row}
 use Rattle.server_state.proofs.DevicesOn.{has_devices, on_tables}
 use Rattle.server_state.proofs.Orderly.{orderly}
-use Rattle.server_state.specs.Held.{kind_in, objects_in, table_kind}
+use Rattle.server_state.specs.Held.{kind_in, objects_in, own, table_kind}
 use Rattle.server_state.specs.Step.{IsKnown}
 use Rattle.server_state.specs.Users.{accesses_to, devices_on, tables_over}
 use Rattle.server_state.specs.declared.held.Held.{Held}
@@ -60,7 +60,7 @@ module _ {A : Type 0} (s : State A) (file : FileNo) (id : ObjId) (known : IsKnow
           × (of : ObjectKind) × (kind_of known.world.objects file id ≡ Some of) × (table_kind of ≡ k)
       by_row None found is = cc
       by_row (Some row) found is =
-          let (there, of_row, stands) = own_kind s.objects.rows file id k row known.shows.objects.proper
+          let (there, of_row, stands) = own_kind s.objects.rows file id k row
           (orderly known.at known.world s known.tidy known.shows).ids found in
           let was = users_of_row known.world.objects known.world.attachments s.objects.rows
           known.shows.objects.counted file id row there in
@@ -96,7 +96,7 @@ module _ {A : Type 0} (s : State A) (file : FileNo) (id : ObjId) (known : IsKnow
       let no_space : has_ioas known.world.objects file id ≡ false =
       ap (λ (l : List Object). has_ioas l file id) known.shows.objects.rows
       ∙ false_else (has_ioas (objects_in s.objects) file id)
-      (space_absent s.objects file id (orderly known.at known.world s known.tidy known.shows) none) in
+      (space_absent s.objects file id none) in
       let none_over = over_spaces known.world.objects file id known.tidy.debts.spaces no_space in
       let none_to = known.shows.objects.accesses file id no_space in
       let on : 0 ≡ tables_over known.world.objects file id + accesses_to known.world.objects file id =
@@ -135,5 +135,5 @@ module _ {A : Type 0} (s : State A) (file : FileNo) (id : ObjId) (known : IsKnow
       by_kind (Some (kind.Access attached)) is = refl
       by_kind (Some (kind.Hwpt ioas width automatic)) is =
           let (row, found, there) = own_row s.objects.rows file id (kind.Hwpt ioas width automatic)
-          known.shows.objects.proper (sym kind_shown ∙ is) in
+          (sym kind_shown ∙ is) in
           cc

@@ -3,6 +3,7 @@ use Rattle.std.specs.Prelude.{ℕ, Bool, Option, Some, None, List, [], find, map
 use Rattle.iofd_words.specs.Attachments.{ioas_of_attachment}
 use Rattle.iofd_words.specs.declared.numbers.FileNo.{FileNo}
 use Rattle.iofd_words.specs.declared.numbers.ObjId.{ObjId}
+use Rattle.iofd_words.specs.declared.refusal.Cause.{Cause}
 use Rattle.iofd_words.specs.declared.rows.Area.{Area}
 use Rattle.iofd_words.specs.declared.rows.Attachment.{Attachment}
 use Rattle.iofd_words.specs.declared.rows.Object.{Object}
@@ -10,7 +11,8 @@ use Rattle.iofd_words.specs.declared.rows.ObjectKind.{ObjectKind}
 use Rattle.iofd_words.specs.declared.rows.ObjectKind.TheVariants as kind
 use Rattle.server_state.specs.declared.held.Held.{Held}
 use Rattle.server_state.specs.declared.held.Held.TheVariants as held
-use Rattle.object_table.specs.Table.{Row, Table, is_at, is_same_kind}
+use Rattle.object_table.specs.Table as of_table
+use Rattle.object_table.specs.Table.{Row, Table, is_at}
 use Rattle.object_table.specs.declared.kind.Kind.{Kind}
 use Rattle.object_table.specs.declared.kind.Kind.TheVariants as table
 
@@ -29,6 +31,10 @@ module _ {A : Type 0} where
   kind_in (held.Device device) = kind.Device device
   kind_in (held.Access attached) = kind.Access attached
 
+  -- under which kind the table finds it
+  abbrev pub held_kind : Held A → Kind
+  held_kind held = table_kind (kind_in held)
+
   -- the areas of an address space; no other object has any
   abbrev pub areas_in : Held A → List Area
   areas_in (held.Ioas areas) = areas.areas
@@ -46,16 +52,25 @@ module _ {A : Type 0} where
   abbrev pub object_of : Row (Held A) → Object
   object_of row = record { file = row.file; id = row.id; kind = kind_in row.value }
 
-  -- it stands under its kind
-  abbrev pub is_proper : Row (Held A) → Bool
-  is_proper row = is_same_kind row.kind (table_kind (kind_in row.value))
-
   -- the areas of the address space of this id; of another object none
   abbrev pub areas_at : List (Row (Held A)) → FileNo → ObjId → List Area
   areas_at rows file id = elim (find (is_at file id) rows) [ Some row ↦ areas_in row.value | None ↦ [] ]
 
   abbrev pub room_at : List (Row (Held A)) → FileNo → ObjId → ℕ
   room_at rows file id = elim (find (is_at file id) rows) [ Some row ↦ room_in row.value | None ↦ 0 ]
+
+  -- the table's words by kind, where an object is of the kind of what it holds
+  abbrev pub is_own : FileNo → Kind → ObjId → Row (Held A) → Bool
+  is_own = of_table.is_own held_kind
+
+  abbrev pub own : Table (Held A) → FileNo → Kind → ObjId → Option (Row (Held A))
+  own = of_table.own held_kind
+
+  abbrev pub destroy_refusal : Table (Held A) → FileNo → Kind → ObjId → Option Cause
+  destroy_refusal = of_table.destroy_refusal held_kind
+
+  abbrev pub close_refusal : Table (Held A) → FileNo → Option Cause
+  close_refusal = of_table.close_refusal held_kind
 
   -- the objects of the world that the table has
   abbrev pub objects_in : Table (Held A) → List Object

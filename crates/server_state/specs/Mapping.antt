@@ -12,9 +12,9 @@ use Rattle.iofd_words.specs.declared.rows.Area.{Area}
 use Rattle.iofd_words.specs.declared.rows.Attachment.{Attachment}
 use Rattle.iofd_words.specs.declared.rows.Object.{Object}
 use Rattle.user_memory_rows.specs.Shown.{over}
-use Rattle.server_state.specs.Held.{areas_in}
+use Rattle.server_state.specs.Held.{areas_in, own}
 use Rattle.server_state.specs.declared.held.Held.{Held}
-use Rattle.object_table.specs.Table.{Table, own}
+use Rattle.object_table.specs.Table.{Table}
 use Rattle.object_table.specs.declared.kind.Kind.TheVariants.{Ioas}
 use Rattle.user_memory.specs.Changes.{never}
 

@@ -18,7 +18,7 @@ use Rattle.iofd_words.specs.declared.rows.Attachment.{Attachment}
 use Rattle.iofd_words.specs.declared.rows.Object.{Object}
 use Rattle.server_state.specs.AccessPins.{AccessPinsShown}
 use Rattle.server_state.specs.Devices.{are_bindings}
-use Rattle.server_state.specs.Held.{object_of, is_proper, areas_at}
+use Rattle.server_state.specs.Held.{object_of, areas_at}
 use Rattle.server_state.specs.declared.held.Held.{Held}
 use Rattle.server_state.specs.Leads.{leads_of}
 use Rattle.server_state.specs.Tables.{has_own_width, page_tables_among}
@@ -34,7 +34,6 @@ use Rattle.object_table.specs.Table.{Table, is_open}
 pub record ObjectsShown {A : Type 0} (settings : Settings) (closed : List FileNo) (objects : List Object)
     (attachments : List Attachment) (areas : List Area) (table : Table (Held A)) : Type 0 where
   pub rows : objects ≡ map object_of table.rows
-  pub proper : list_all is_proper table.rows ≡ true
   -- each address space has its areas; no other object has any
   pub spaces : (f : FileNo) (ioas : ObjId) → areas_of areas f ioas ≡ areas_at table.rows f ioas
   pub files : (number : FileNo) → is_open table number ≡ file.is_open settings closed number

@@ -2,7 +2,8 @@
 //! devices translate by a page table, is counted with the object as its users.
 
 ghost use Rattle.std.specs.Prelude.{◌≡◌, ◌<◌, ◌+◌, ◌-◌, IfSome, None};
-ghost use Rattle.object_table.specs.Table.{changed_at, own, with_users};
+ghost use Rattle.object_table.specs.Table.{changed_at, with_users};
+ghost use Rattle.server_state.specs.Held.{own};
 
 use crate::held::Held;
 use iofd_words::{FileNo, ObjId};

@@ -3,7 +3,8 @@
 ghost use Rattle.std.specs.Prelude.{◌≡◌, ◌-◌, None, if◌then◌else◌, vec_capacity, vec_len};
 ghost use Rattle.page_table_set.specs.PageTables.{IfAllStand, hwpt_of};
 ghost use Rattle.page_table_set.specs.Removed.{CanRemove, rows_found};
-ghost use Rattle.object_table.specs.Table.{destroy_refusal, removed};
+ghost use Rattle.object_table.specs.Table.{removed};
+ghost use Rattle.server_state.specs.Held.{destroy_refusal};
 ghost use Rattle.server_state.specs.Mapping.{own_areas, untranslated_pins};
 ghost use Rattle.server_state.specs.TableGone.{HasLostTable, MayLoseTable};
 ghost use Rattle.user_memory_rows.specs.Moves.{IsReleased, MayRelease, if_translated};

@@ -2,7 +2,7 @@
 
 use iofd_words::{CallError, FileNo, NoMemory, ObjId};
 use linked_list_allocator::LocalHeap;
-use object_table::{InsertError, Kind, ObjectTable};
+use object_table::{InsertError, Kind, ObjectTable, Typed};
 use std::alloc::Allocator;
 
 const FIRST: FileNo = FileNo(1);
@@ -15,14 +15,29 @@ const FOURTH: FileNo = FileNo(4);
 
 const FIFTH: FileNo = FileNo(5);
 
-/// The id that the object gets; 0 where it is refused.
+/// What an object holds here: a number, and of which kind the object is.
+#[derive(Drop)]
+struct Content {
+    kind: Kind,
+    number: u32,
+}
+
+impl Typed for Content {
+    ghost kind = { λ value. value.kind };
+
+    fn kind(&self) -> Kind {
+        self.kind
+    }
+}
+
+/// The id that an object with this number gets; 0 where it is refused.
 fn inserted<A: Allocator>(
-    table: &mut ObjectTable<u32, A>,
+    table: &mut ObjectTable<Content, A>,
     file: FileNo,
     kind: Kind,
-    value: u32,
+    number: u32,
 ) -> u32 {
-    match table.insert(file, kind, value) {
+    match table.insert(file, Content { kind, number }) {
         Ok(id) => id.0,
         Err(_) => 0,
     }
@@ -30,27 +45,35 @@ fn inserted<A: Allocator>(
 
 /// The same by `reserve` and then `insert_reserved`.
 fn inserted_reserved<A: Allocator>(
-    table: &mut ObjectTable<u32, A>,
+    table: &mut ObjectTable<Content, A>,
     file: FileNo,
     kind: Kind,
-    value: u32,
+    number: u32,
 ) -> u32 {
     match table.reserve(file) {
-        Ok(_) => table.insert_reserved(file, kind, value).0,
+        Ok(_) => table.insert_reserved(file, Content { kind, number }).0,
         Err(_) => 0,
     }
 }
 
-/// What the object holds; 0 where there is none of this kind.
-fn got<A: Allocator>(table: &ObjectTable<u32, A>, file: FileNo, kind: Kind, id: u32) -> u32 {
+/// The number that the object holds; 0 where there is none of this kind.
+fn got<A: Allocator>(table: &ObjectTable<Content, A>, file: FileNo, kind: Kind, id: u32) -> u32 {
     match table.get(file, kind, ObjId(id)) {
-        Ok(value) => *value,
+        Ok(value) => value.number,
         Err(_) => 0,
+    }
+}
+
+/// The same of an object of whatever kind.
+fn held<A: Allocator>(table: &ObjectTable<Content, A>, file: FileNo, id: u32) -> u32 {
+    match table.value(file, ObjId(id)) {
+        Some(value) => value.number,
+        None => 0,
     }
 }
 
 /// Whether each of two files gives the ids 1, 2, 3.
-fn numbers<A: Allocator>(table: &mut ObjectTable<u32, A>) -> bool {
+fn numbers<A: Allocator>(table: &mut ObjectTable<Content, A>) -> bool {
     inserted(table, THIRD, Kind::Ioas, 1) == 1
         && inserted(table, THIRD, Kind::Device, 2) == 2
         && inserted_reserved(table, THIRD, Kind::Hwpt, 3) == 3
@@ -58,17 +81,17 @@ fn numbers<A: Allocator>(table: &mut ObjectTable<u32, A>) -> bool {
 }
 
 /// Whether an object is then found by its file, kind and id alone.
-fn finds<A: Allocator>(table: &ObjectTable<u32, A>) -> bool {
+fn finds<A: Allocator>(table: &ObjectTable<Content, A>) -> bool {
     got(table, THIRD, Kind::Ioas, 1) == 1
         && got(table, FOURTH, Kind::Access, 1) == 4
         && got(table, THIRD, Kind::Access, 1) == 0
         && got(table, FOURTH, Kind::Device, 2) == 0
         && table.kind_of(THIRD, ObjId(3)) == Some(Kind::Hwpt)
-        && table.value(THIRD, ObjId(3)) == Some(&3)
+        && held(table, THIRD, 3) == 3
 }
 
-/// Inserts objects of value 1, 2, 3 and so on, as long as each gets its value as its id. How many came in.
-fn numbered<A: Allocator>(table: &mut ObjectTable<u32, A>, file: FileNo) -> u32 {
+/// Inserts objects with the numbers 1, 2, 3 and so on, as long as each gets its number as its id. How many came in.
+fn numbered<A: Allocator>(table: &mut ObjectTable<Content, A>, file: FileNo) -> u32 {
     for count in 0..1024u32 {
         if inserted(table, file, Kind::Ioas, count + 1) != count + 1 {
             return count;
@@ -80,7 +103,7 @@ fn numbered<A: Allocator>(table: &mut ObjectTable<u32, A>, file: FileNo) -> u32 
 /// How many objects come into the file while a block leaves so much memory, until one finds none.
 fn came_in<A: Allocator>(
     heap: &LocalHeap,
-    table: &mut ObjectTable<u32, A>,
+    table: &mut ObjectTable<Content, A>,
     file: FileNo,
     left: usize,
 ) -> Option<u32> {
@@ -89,7 +112,11 @@ fn came_in<A: Allocator>(
         return None;
     };
     let count = numbered(table, file);
-    match table.insert(file, Kind::Ioas, 99) {
+    let another = Content {
+        kind: Kind::Ioas,
+        number: 99,
+    };
+    match table.insert(file, another) {
         Err(
             InsertError {
                 reason: CallError::Memory(NoMemory),
@@ -101,7 +128,7 @@ fn came_in<A: Allocator>(
 }
 
 /// Whether an object finds no memory where none is left, nor behind a few others; and then where there is some again.
-fn grows_again<A: Allocator>(heap: &LocalHeap, table: &mut ObjectTable<u32, A>) -> bool {
+fn grows_again<A: Allocator>(heap: &LocalHeap, table: &mut ObjectTable<Content, A>) -> bool {
     let none = came_in(heap, table, FIRST, 0);
     match came_in(heap, table, FIRST, 1 << 10) {
         Some(few) => { none == Some(0) && few > 0 && inserted(table, FIRST, Kind::Ioas, 0) > few }
@@ -110,7 +137,7 @@ fn grows_again<A: Allocator>(heap: &LocalHeap, table: &mut ObjectTable<u32, A>) 
 }
 
 /// Fills the second file and closes it. Whether all that it took goes back, and the file after it gets as much.
-fn gives_back<A: Allocator>(heap: &LocalHeap, table: &mut ObjectTable<u32, A>) -> bool {
+fn gives_back<A: Allocator>(heap: &LocalHeap, table: &mut ObjectTable<Content, A>) -> bool {
     let used = heap.used();
     let count = numbered(table, SECOND);
     let has_grown = count > 8 && count < 1024 && heap.used() > used;

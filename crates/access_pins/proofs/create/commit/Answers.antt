@@ -27,7 +27,7 @@ returns-clause-ok g c = λ at w tidy shows none.
     inserted.in_range.0 inserted.in_range.1 unused) in (
       fresh,
       shows_inserted w c.args.state.now _ c.insert_reserved-id.new.self c.args.state.now.bindings shows refl
-          refl refl unused refl refl (rw reserved.rows at inserted.rows) (inserted.files ∙ reserved.files)
+          refl unused refl refl (rw reserved.rows at inserted.rows) (inserted.files ∙ reserved.files)
           (λ device. find-with_object (λ object. is_bound_as device object.kind) _ w.objects refl
           ∙ shows.devices.bindings device) shows.devices.rising
           (more_accesses w (record {

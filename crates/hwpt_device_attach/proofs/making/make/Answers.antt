@@ -15,7 +15,6 @@ use Rattle.server_state.proofs.Errors.{on_err_same}
 use Rattle.server_state.specs.Mapping.{own_areas}
 use Rattle.server_state.specs.declared.state.State.{State}
 use Rattle.object_table.specs.Table.{Table, inserted, reserved_id}
-use Rattle.object_table.specs.declared.kind.Kind.TheVariants as of_kind
 use Rattle.server_state.specs.declared.held.Held.{Held}
 use Rattle.hwpt_device_attach.proofs.AreasOwn.{fresh_there, objects_made, own_still, row_of}
 use Rattle.hwpt_device_attach.proofs.Asks.{may_pin, pins_known, translated_space}
@@ -99,7 +98,6 @@ add-requires-clause-can g c =
     c.insert_reserved-id.ensures.rows ∙ ap (λ (value : Held _). inserted (record {
       file = c.args.file;
       id = id;
-      kind = of_kind.Hwpt;
       users = 0;
       value = value;
     }) base.rows) c.held_table-table.ensures in
@@ -145,7 +143,6 @@ returns-clause-ok g c =
     c.insert_reserved-id.ensures.rows ∙ ap (λ (value : Held _). inserted (record {
       file = c.args.file;
       id = id;
-      kind = of_kind.Hwpt;
       users = 0;
       value = value;
     }) base.rows) c.held_table-table.ensures in

@@ -11,7 +11,6 @@ returns-clause-shows g c =
       settings = sym c.in_ok-copied.ensures;
       objects = record {
         rows = rw c.in_ok-new.ensures refl;
-        proper = rw c.in_ok-new.ensures refl;
         spaces = λ file ioas. rw c.in_ok-new.ensures refl;
         files = λ number. rw (c.in_ok-new.ensures, c.files.ensures) (all_open g.row.A.Denot c.args.config.now number);
         counted = λ file id. rw c.in_ok-new.ensures refl;

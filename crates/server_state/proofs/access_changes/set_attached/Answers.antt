@@ -7,4 +7,4 @@ returns-in-Ok g c = attachment_set c.args.table.now c.args.file c.args.id c.args
 
 pub returns-in-Err : goal.returns-in-Err
 returns-in-Err g c = λ orderly has.
-    absurd (no_attachment c.args.table.now c.args.file c.args.id orderly c.in-Err.ensures.refused.0 has)
+    absurd (no_attachment c.args.table.now c.args.file c.args.id c.in-Err.ensures.refused.0 has)

@@ -17,4 +17,4 @@ returns-in-Ok g c = λ orderly has free room.
 
 pub returns-in-Err : goal.returns-in-Err
 returns-in-Err g c = λ orderly has free room. absurd
-    (space_absent c.args.table.now c.args.file c.args.ioas orderly c.in-Err.ensures.refused.0 has)
+    (space_absent c.args.table.now c.args.file c.args.ioas c.in-Err.ensures.refused.0 has)

@@ -22,7 +22,7 @@ returns-in-Ok-clause-ok g c =
 
 pub returns-in-Err-clause-ok : goal.returns-in-Err-clause-ok
 returns-in-Err-clause-ok g c =
-    λ orderly has. absurd (space_absent c.args.table.now c.args.file c.args.ioas orderly c.in-Err.ensures.refused.0 has)
+    λ orderly has. absurd (space_absent c.args.table.now c.args.file c.args.ioas c.in-Err.ensures.refused.0 has)
 
 pub returns-in-Ok-clause-full : goal.returns-in-Ok-clause-full
 returns-in-Ok-clause-full g c =

@@ -9,5 +9,5 @@ abbrev pub invariant-loop-entry : goal.invariant-loop-entry
 invariant-loop-entry g l =
     (goal.iterator-loop-entry g).can_next l.entry-iterator ×
     (goal.iterator-loop-entry g).is_finite l.entry-iterator ×
-    (list_any (λ e. keeps_file_open e.1.kind) l.entry-iterator ≡ list_any (λ e. keeps_file_open e.1.kind)
-    (entries l.self.objects))
+    (list_any (λ e. keeps_file_open (g.V.Typed.kind e.1.value)) l.entry-iterator
+    ≡ list_any (λ e. keeps_file_open (g.V.Typed.kind e.1.value)) (entries l.self.objects))

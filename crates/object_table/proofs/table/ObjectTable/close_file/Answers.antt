@@ -7,7 +7,7 @@ use Rattle.object_table.proofs.table.ObjectTable.close_file.Goals as goal
 pub returns-in_default-clause-refused : goal.returns-in_default-clause-refused
 returns-in_default-clause-refused g c =
     let files = c.self.inside.files in
-    rw (← c.self.view_is) (outside_close_refusal files.items c.args.file
+    rw (← c.self.view_is) (outside_close_refusal files.items c.args.file g.V.Typed.kind
     (λ place is. omega (arith, files.ok.0, c.len.ensures, c.in_default.ensures place is)))
 
 pub returns-then-is_held-clause-refused : goal.returns-then-is_held-clause-refused
@@ -18,7 +18,7 @@ returns-then-is_held-clause-refused g c =
     let is_open : c.index_mut-objects.result.now.is_open ≡ true = c.if-not-objects.false in
     let held = sym c.is_held.ensures ∙ c.if-is_held.true in
     rw (← c.self.view_is) (close_refusal-inside files.items c.args.file c.in-Some.place c.index_mut-objects.result.now
-    place.0 within c.index_mut-objects.ensures.value is_open ∙ rw held)
+    place.0 within c.index_mut-objects.ensures.value g.V.Typed.kind is_open ∙ rw held)
 
 pub returns-clause-ok : goal.returns-clause-ok
 returns-clause-ok g c =
@@ -28,7 +28,7 @@ returns-clause-ok g c =
     let is_open : c.index_mut-objects.result.now.is_open ≡ true = c.if-not-objects.false in
     let held = sym c.is_held.ensures ∙ c.if-is_held.false in
     rw (← c.self.view_is) (close_refusal-inside files.items c.args.file c.in-Some.place c.index_mut-objects.result.now
-    place.0 within c.index_mut-objects.ensures.value is_open ∙ rw held)
+    place.0 within c.index_mut-objects.ensures.value g.V.Typed.kind is_open ∙ rw held)
 
 pub returns-clause-closed : goal.returns-clause-closed
 returns-clause-closed g c =
@@ -72,7 +72,8 @@ returns-then-not-objects-clause-refused g c =
     let place = c.in-Some.ensures in
     let within : c.in-Some.place < length files.items = omega (arith, files.ok.0, c.len.ensures, place.1) in
     rw (← c.self.view_is) (close_refusal-closed files.items c.args.file c.in-Some.place
-    c.index_mut-objects.result.now place.0 within c.index_mut-objects.ensures.value c.if-not-objects.true)
+    c.index_mut-objects.result.now place.0 within c.index_mut-objects.ensures.value g.V.Typed.kind
+    c.if-not-objects.true)
 
 pub returns-then-not-objects-clause-unchanged : goal.returns-then-not-objects-clause-unchanged
 returns-then-not-objects-clause-unchanged g c =

@@ -17,7 +17,7 @@ pub returns-in_err-place-clause-own : goal.returns-in_err-place-clause-own
 returns-in_err-place-clause-own g c =
     let files = c.self.inside.files in
     λ kind. rw (← c.self.view_is, c.from_residual.ensures)
-    (outside_own files.items c.args.file kind c.args.id (λ place is. omega (
+    (outside_own files.items c.args.file g.V.Typed.kind kind c.args.id (λ place is. omega (
       arith,
       files.ok.0,
       c.len.ensures,
@@ -39,4 +39,4 @@ returns-clause-own g c =
     let within : c.in_ok-place.place < length files.items = omega (arith, files.ok.0, c.len.ensures, place.1) in
     λ kind. rw (← c.self.view_is, c.entry.ensures)
     (own-inside files.items c.args.file c.in_ok-place.place c.index.result.now place.0 within
-    c.index.ensures kind c.args.id)
+    c.index.ensures g.V.Typed.kind kind c.args.id)
