@@ -83,6 +83,7 @@ use Rattle.iofd_words.specs.TablePlaces.{is_table_of}
 use Rattle.iofd_words.specs.Tables.{MovesTables, with_tables}
 use Rattle.iofd_words.specs.declared.numbers.FrameNo.{FrameNo}
 use Rattle.iofd_words.specs.declared.rows.TableFrame.{TableFrame}
+use Rattle.iova_ranges.specs.AllowedRows.{AllowedRows}
 use Rattle.user_memory_rows.specs.Shown.{FramesShown}
 use Rattle.server_state.specs.Spaces.{is_space}
 use Rattle.page_table_words.specs.Released.{GivesBack}
@@ -290,7 +291,7 @@ module _ {A : Type 0} where
   -- the object is gone, where page tables have these rows in the pool before memory objects are let go of
   pub shows_destroyed : (at : ℕ) (w : World) (s : State A) (file : FileNo) (id : ObjId) (k : ObjectKind)
       (table : Table (Held A)) (areas pins : ℕ
-      → ℕ) (memory : Memory) (before pool : FramePool) (allowed : List AllowedRanges) (dirty : Tables)
+      → ℕ) (memory : Memory) (before pool : FramePool) (allowed : AllowedRows) (dirty : Tables)
       (kept : List TableFrame)
       (tables : PageTables) → IsTidy at w → Shows w s → first_true (destroy_checks (view w) file id) ≡ None
       → kind_of w.objects file id ≡ Some k → is_bound_device k ≡ false
@@ -303,7 +304,7 @@ module _ {A : Type 0} where
       → areas_of (filter (λ (area : Area). not (is_of file id area)) w.areas) f i ≡ areas_of w.areas f i)
       → AreFewer areas pins w (without_object file id w.objects)
       (filter (λ (area : Area). not (is_of file id area)) w.areas)
-      → IsReleased areas pins s.memory memory before pool → allowed ≡ without_allowed file id s.allowed
+      → IsReleased areas pins s.memory memory before pool → allowed.rows ≡ without_allowed file id s.allowed.rows
       → DirtyShown (without_tracked file id w.tracked) dirty
       → Shows (record (gone w file id) { table_frames = kept }) (record s {
         objects = table;
@@ -337,7 +338,8 @@ module _ {A : Type 0} where
         };
         limits = after.limits;
         allowed = λ f i. allowed_without file id w.allowed f i
-            ∙ ap (cond (is_of_space file id f i) []) (shows.allowed f i) ∙ sym (allowed_without file id s.allowed f i)
+            ∙ ap (cond (is_of_space file id f i) []) (shows.allowed f i)
+            ∙ sym (allowed_without file id s.allowed.rows f i)
             ∙ ap (λ (rows : List AllowedRanges). allowed_of rows f i) (sym forgets);
         dirty = marks;
         users = after.users;
@@ -425,12 +427,12 @@ module _ {A : Type 0} where
     same_among : page_tables_among (without_object file id w.objects) ≡ page_tables_among w.objects
     same_among = no_table_goes w.objects file id tidy.ids kind.Ioas space_kind refl
 
-    pub space_destroyed : (table : Table (Held A)) (memory : Memory) (pool : FramePool) (allowed : List AllowedRanges)
+    pub space_destroyed : (table : Table (Held A)) (memory : Memory) (pool : FramePool) (allowed : AllowedRows)
         (dirty : Tables)
         → (destroy_refusal s.objects file tablekind.Ioas id ≡ None → table.rows ≡ removed file id s.objects.rows)
         → table.files ≡ s.objects.files
         → IsReleased (over (own_areas s.objects file id)) never s.memory memory s.pool pool
-        → allowed ≡ without_allowed file id s.allowed → DirtyShown (without_tracked file id w.tracked) dirty
+        → allowed.rows ≡ without_allowed file id s.allowed.rows → DirtyShown (without_tracked file id w.tracked) dirty
         → Shows (gone w file id)
         (record s { objects = table; allowed = allowed; dirty = dirty; memory = memory; pool = pool })
     unfolding settle without_areas
@@ -522,9 +524,9 @@ module _ {A : Type 0} where
     none_on_it = on_tables w.objects w.attachments file id tidy.debts.tables
         (ap (λ (o : Option ObjectKind). elim o as (λ _. Bool) [ Some k ↦ is_hwpt k | None ↦ false ]) access_kind)
 
-    pub access_destroyed : (table : Table (Held A)) (allowed : List AllowedRanges) (dirty : Tables)
+    pub access_destroyed : (table : Table (Held A)) (allowed : AllowedRows) (dirty : Tables)
         → (destroy_refusal s.objects file tablekind.Access id ≡ None → table.rows ≡ removed file id s.objects.rows)
-        → table.files ≡ s.objects.files → allowed ≡ without_allowed file id s.allowed
+        → table.files ≡ s.objects.files → allowed.rows ≡ without_allowed file id s.allowed.rows
         → DirtyShown (without_tracked file id w.tracked) dirty
         → Shows (gone w file id) (record s { objects = table; allowed = allowed; dirty = dirty })
     unfolding settle without_areas
@@ -566,7 +568,7 @@ module _ {A : Type 0} where
 
   -- a page table
   module _ (at : ℕ) (w : World) (s : State A) (file : FileNo) (id ioas : ObjId) (width : Width) (automatic : Bool)
-      (allowed : List AllowedRanges) (dirty : Tables) (tidy : IsTidy at w) (shows : Shows w s)
+      (allowed : AllowedRows) (dirty : Tables) (tidy : IsTidy at w) (shows : Shows w s)
       (none : first_true (destroy_checks (view w) file id) ≡ None)
       (is_kind : kind_of (objects_in s.objects) file id ≡ Some (kind.Hwpt ioas width automatic)) where
     of_world : kind_of w.objects file id ≡ Some (kind.Hwpt ioas width automatic)
@@ -654,7 +656,8 @@ module _ {A : Type 0} where
           (filter (λ (area : Area). not (is_of file id area)) w.areas) fewer_pins
 
       table_destroyed : (memory : Memory) (pool : FramePool)
-          → IsReleased never pins_gone s.memory memory between pool → allowed ≡ without_allowed file id s.allowed
+          → IsReleased never pins_gone s.memory memory between pool
+          → allowed.rows ≡ without_allowed file id s.allowed.rows
           → DirtyShown (without_tracked file id w.tracked) dirty
           → Shows (record (gone w file id) { table_frames = without_tables file id w.table_frames })
           (record s {
@@ -687,7 +690,9 @@ module _ {A : Type 0} where
           tt after
 
     pub shows_lost : (to : State A) → HasLostTable file id ioas (record s { allowed = allowed; dirty = dirty }) to
-        → allowed ≡ without_allowed file id s.allowed → DirtyShown (without_tracked file id w.tracked) dirty → (via : Option FrameNo) (out given : List FrameNo) → out ≡ []
+        → allowed.rows ≡ without_allowed file id s.allowed.rows
+        → DirtyShown (without_tracked file id w.tracked) dirty → (via : Option FrameNo) (out given : List FrameNo)
+        → out ≡ []
         → IfAllStand s.pool s.page_tables.tables
         (λ frames leads. GivesBack (rows_found frames (hwpt_of s.page_tables.tables file id)) out given)
         → Moves at w file id via given to

@@ -59,6 +59,7 @@ use Rattle.iofd_words.specs.declared.rows.Attachment.{Attachment}
 use Rattle.iofd_words.specs.declared.rows.Object.{Object}
 use Rattle.iofd_words.specs.declared.rows.ObjectKind.{ObjectKind}
 use Rattle.iofd_words.specs.declared.rows.ObjectKind.TheVariants as kind
+use Rattle.iova_ranges.specs.AllowedRows.{AllowedRows}
 use Rattle.iofd_rows.proofs.Allowed.{allowed_closed}
 use Rattle.iofd_rows.proofs.Bools.{and_true, both_true, clash, or_false}
 use Rattle.iofd_rows.proofs.Found.{find-filter}
@@ -364,11 +365,11 @@ module _ {A : Type 0} where
         counted f = file_counted w.objects s.page_tables.tables shows.tables.tables shows.tables.stand.own file
             w.table_frames tidy.tabled.owned f
 
-        pub shows_closed : (table : Table (Held A)) (attachments : Vec Attachment A) (allowed : List AllowedRanges)
+        pub shows_closed : (table : Table (Held A)) (attachments : Vec Attachment A) (allowed : AllowedRows)
             (dirty : Tables)
             → (close_refusal s.objects file ≡ None → table ≡ closed s.objects file)
             → attachments.items ≡ filter (λ (a : Attachment). not (eqb a.file.0 file.0)) s.attachments.items
-            → allowed ≡ filter (λ (row : AllowedRanges). not (eqb row.file.0 file.0)) s.allowed
+            → allowed.rows ≡ filter (λ (row : AllowedRanges). not (eqb row.file.0 file.0)) s.allowed.rows
             → DirtyShown (filter (λ (t : TrackedTable). not (eqb t.file.0 file.0)) w.tracked) dirty
             → Shows (record (changed {A = A} at w (event.Close file) reply.Done) {
               table_frames = without_tables_of file
@@ -415,7 +416,7 @@ module _ {A : Type 0} where
               };
               limits = after.limits;
               allowed = λ f i. allowed_closed file w.allowed f i ∙ ap (cond (eqb f.0 file.0) []) (shows.allowed f i)
-                  ∙ sym (allowed_closed file s.allowed f i)
+                  ∙ sym (allowed_closed file s.allowed.rows f i)
                   ∙ ap (λ (rows : List AllowedRanges). allowed_of rows f i) (sym forgets);
               dirty = marks;
               users = after.users;

@@ -1,5 +1,5 @@
 -- A COPY that nothing refuses: what it asks of the users' memory, and that its area may be mapped.
-use Rattle.std.proofs.Common.{◌≡◌, ℕ, ◌<◌, ◌≤◌, ◌^◌, Bool, true, false, ◌||◌, not, eqb, Option, Some, None}
+use Rattle.std.proofs.Common.{◌≡◌, ℕ, ◌+◌, ◌<◌, ◌≤◌, ◌^◌, Bool, true, false, ◌||◌, not, eqb, Option, Some, None}
 use Rattle.std.proofs.Common.{List, [], ◌∷◌, sym, ◌∙◌, ap, subst, arith}
 use Rattle.std.specs.Prelude.{if◌then◌else◌}
 use Rattle.std.specs.List.{list_all}
@@ -8,6 +8,7 @@ use Rattle.frame_memory.specs.Pool.{FramePool, free_count}
 use Rattle.iofd_rows.proofs.Each.{of_each}
 use Rattle.iofd_runs.proofs.MappedAt.{copy_lies_at}
 use Rattle.iofd_runs.proofs.NotRefused.{CopyPassed, PlacePassed, copy_passed, copy_place}
+use Rattle.iofd_runs.proofs.SharedFew.{shared_few}
 use Rattle.iofd_runs.specs.Owned.{is_of_files_user, is_over_own}
 use Rattle.iofd_words.specs.After.{mapped_area}
 use Rattle.iofd_words.specs.Answers.{IsMappedAt}
@@ -71,6 +72,13 @@ module _ {A : Type 0} (at : ℕ) (s : State A) (file : FileNo) (request : CopyRe
       (granted.shows.objects.spaces file request.src_ioas) ∙ named)
 
   -- ---- what is asked of the memory object of this number
+
+  -- one area more can be counted with it
+  pub few_over : (number : ℕ) → areas_over s.memory number + 1 < 2 ^ 64
+  few_over number =
+      let most = shared_few w granted.tidy.few granted.tidy.own granted.tidy.debts number in
+      let same = granted.shows.pins.areas number in
+      omega (arith, most, same)
 
   module _ (number : ℕ) (named : number_of (source_in (areas_at s.objects.rows file request.src_ioas) request) ≡ Some
       number) (user : UserNo) (is_user_of : user_of s.config file ≡ Some user) where

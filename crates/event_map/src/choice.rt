@@ -110,8 +110,8 @@ fn gap_meeting<A: Allocator>(
     span: Span,
 ) -> Option<Span>
     ensures { MatchOption result
-        (AllIn (allowed_spans (allowed_of state.now.allowed file ioas)) span)
-        (IsGap (allowed_spans (allowed_of state.now.allowed file ioas)) span) }
+        (AllIn (allowed_spans (allowed_of state.now.allowed.rows file ioas)) span)
+        (IsGap (allowed_spans (allowed_of state.now.allowed.rows file ioas)) span) }
 {
     match state.allowed.of(file, ioas) {
         Some(row) => row.gap_meeting(span),

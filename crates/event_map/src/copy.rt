@@ -91,10 +91,6 @@ pub fn commit<A: Allocator + Copy>(
     let Some(number) = source_number(&state.objects, file, request) else {
         unreachable!()
     };
-    if !state.memory.counts_more(number) {
-        // Never: each area takes memory.
-        return Err(NoMemory);
-    }
     let placed = placed_as(request);
     let Some(span) = placing::place_of(state, file, placed) else {
         unreachable!()

@@ -147,7 +147,7 @@ module _ {A : Type 0} (s : State A) (file : FileNo) (ioas : ObjId) where
   -- an area or an allowed range is left out
   pub known_narrows : (spans : List Bounds) → IsKnown s
       → narrows_without (seen s) file ioas spans ≡ (list_any (λ (a : Area). meets_some spans a.span)
-      (areas_at s.objects.rows file ioas) || list_any (meets_some spans) (allowed_of s.allowed file ioas))
+      (areas_at s.objects.rows file ioas) || list_any (meets_some spans) (allowed_of s.allowed.rows file ioas))
   known_narrows spans known =
       let w = known.world in
       ap (λ (v : View). narrows_without v file ioas spans) (same_view w s known.shows known.tidy.tabled.owned)
@@ -160,14 +160,14 @@ module _ {A : Type 0} (s : State A) (file : FileNo) (ioas : ObjId) where
   -- by the width alone
   pub known_by_width : (width : Width) → IsKnown s
       → narrows_without (seen s) file ioas (beyond width ∷ []) ≡ (list_any (λ (a : Area). meets (beyond width) a.span)
-      (areas_at s.objects.rows file ioas) || list_any (meets (beyond width)) (allowed_of s.allowed file ioas))
+      (areas_at s.objects.rows file ioas) || list_any (meets (beyond width)) (allowed_of s.allowed.rows file ioas))
   known_by_width width known =
       known_narrows (beyond width ∷ []) known
-      ∙ ap (λ b. b || list_any (meets_some (beyond width ∷ [])) (allowed_of s.allowed file ioas))
+      ∙ ap (λ b. b || list_any (meets_some (beyond width ∷ [])) (allowed_of s.allowed.rows file ioas))
       (any_alike (λ (a : Area). meets_some (beyond width ∷ []) a.span) (λ (a : Area). meets (beyond width) a.span)
       (areas_at s.objects.rows file ioas) (λ a within. or_none (meets (beyond width) a.span)))
       ∙ ap (λ b. list_any (λ (a : Area). meets (beyond width) a.span) (areas_at s.objects.rows file ioas) || b)
-      (any_alike (meets_some (beyond width ∷ [])) (meets (beyond width)) (allowed_of s.allowed file ioas)
+      (any_alike (meets_some (beyond width ∷ [])) (meets (beyond width)) (allowed_of s.allowed.rows file ioas)
       (λ range within. or_none (meets (beyond width) range)))
 
 -- ---- areas by the spans that a device leaves out

@@ -98,7 +98,7 @@ fn range_reaches_beyond<A: Allocator>(
     file: FileNo,
     ioas: ObjId,
 ) -> bool
-    ensures { result ≡ list_any (meets (beyond width)) (allowed_of allowed.now file ioas) }
+    ensures { result ≡ list_any (meets (beyond width)) (allowed_of allowed.now.rows file ioas) }
 {
     match allowed.of(file, ioas) {
         Some(row) => some_beyond(width, row.ranges()),
@@ -171,7 +171,7 @@ fn narrows_allowed<A: Allocator>(
     file: FileNo,
     ioas: ObjId,
 ) -> bool
-    ensures { result ≡ list_any (is_narrowed settings.now) (allowed_of allowed.now file ioas) }
+    ensures { result ≡ list_any (is_narrowed settings.now) (allowed_of allowed.now.rows file ioas) }
 {
     match allowed.of(file, ioas) {
         Some(row) => some_range_narrowed(settings, row.ranges()),

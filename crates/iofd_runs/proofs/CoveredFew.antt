@@ -83,6 +83,26 @@ count_by_parts p q (x ∷ xs) ys parts =
         let one = some_count ys (some refl) in let both = split ys in omega (arith, one, both, rest)
     by_test false some rest = let both = split ys in omega (arith, both, rest)
 
+-- rows that are each of some object of one file, with so many to an object at most
+pub spread_few : {X : Type 0} (objects : List Object) (file : FileNo) (p : X → Bool) (q : ObjId → X → Bool)
+    (rows : List X) → count_by (of_file file) objects ≤ 65535 → ((id : ObjId) → count_by (q id) rows ≤ 65535)
+    → ((x : X) → IsIn rows x → p x ≡ true → list_any (λ (o : Object). q o.id x) (objects_of objects file) ≡ true)
+    → count_by p rows ≤ 65535 * 65535
+spread_few objects file p q rows few each of_some =
+    let own = objects_of objects file in
+    let parts = count_by_parts p (λ (o : Object) x. q o.id x) rows own of_some in
+    let bound = sum_bound (λ (o : Object). count_by (q o.id) rows) (λ o. true) 65535 own (λ o among. each o.id) in
+    let many : length own ≡ count_by (of_file file) objects = length-filter (of_file file) objects in
+    let all = count_all own in
+    grind (arith, parts, bound, few, many, all)
+  where
+    count_all : (xs : List Object) → count_by (λ (o : Object). true) xs ≡ length xs
+    count_all [] = refl
+    count_all (x ∷ xs) =
+        let rest = count_all xs in
+        let here = count-cons (λ (o : Object). true) x xs in
+        omega (arith, rest, here)
+
 -- ---- how often
 
 module _ (w : World) (few : RowsFew w) (pins : AccessPinsFit w) (held : EachHeld w.objects w.areas w.access_pins)
@@ -114,27 +134,11 @@ module _ (w : World) (few : RowsFew w) (pins : AccessPinsFit w) (held : EachHeld
   -- a file's access objects hold so many
   of_one_file : (file : FileNo)
       → count_by (λ (pin : AccessPin). eqb pin.file.0 file.0) w.access_pins ≤ 65535 * 65535
-  of_one_file file =
-      let parts = count_by_parts (λ (pin : AccessPin). eqb pin.file.0 file.0)
-      (λ (o : Object) pin. is_of_access file o.id pin) w.access_pins (objects_of w.objects file)
-      (λ pin among own_pin. holder pin among own_pin) in
-      let bound = sum_bound (λ (o : Object). count_by (is_of_access file o.id) w.access_pins) (λ o. true) 65535
-      (objects_of w.objects file) (λ o among. pins.few file o.id) in
-      let objects = few.objects file in
-      let many : length (objects_of w.objects file) ≡ count_by (of_file file) w.objects =
-      length-filter (of_file file) w.objects in
-      let all = count_all (objects_of w.objects file) in
-      grind (arith, parts, bound, objects, many, all)
+  of_one_file file = spread_few w.objects file (λ (pin : AccessPin). eqb pin.file.0 file.0) (is_of_access file)
+      w.access_pins (few.objects file) (pins.few file) holder
     where
       itself : (n : ℕ) → eqb n n ≡ true
       itself n = grind (arith, nat_tests)
-
-      count_all : (xs : List Object) → count_by (λ (o : Object). true) xs ≡ length xs
-      count_all [] = refl
-      count_all (x ∷ xs) =
-          let rest = count_all xs in
-          let here = count-cons (λ (o : Object). true) x xs in
-          omega (arith, rest, here)
 
       holder : (pin : AccessPin) → IsIn w.access_pins pin → eqb pin.file.0 file.0 ≡ true
           → list_any (λ (o : Object). is_of_access file o.id pin) (objects_of w.objects file) ≡ true

@@ -41,6 +41,7 @@ pub mod SamePages
 pub mod SameSettings
 pub mod SameTables
 pub mod Served
+pub mod SharedFew
 pub mod StillTabled
 pub mod TableCounts
 pub mod TableEvents

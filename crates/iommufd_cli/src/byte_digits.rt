@@ -105,11 +105,8 @@ pub fn put_hex_bytes(bytes: &[u8], buffer: &mut [u8])
 pub fn hex_digits<A: Allocator>(alloc: A, bytes: &[u8]) -> Result<Vec<u8, A>, NoMemory>
     ensures { IfOk result (λ digits. digits.items ≡ encode_lower bytes.now) }
 {
-    let Some(count) = bytes.len().checked_mul(2) else {
-        return Err(NoMemory);
-    };
     let mut digits = Vec::new(alloc);
-    digits.resize(count, 0)?;
+    digits.resize(bytes.len() * 2, 0)?;
     put_hex_bytes(bytes, &mut digits);
     Ok(digits)
 }

@@ -1,5 +1,5 @@
 -- What always holds of a run's world.
-use Rattle.std.proofs.Common.{◌≡◌, true, List, length, refl, arith}
+use Rattle.std.proofs.Common.{◌≡◌, ℕ, true, List, length, refl, arith}
 use Rattle.iofd_runs.proofs.KeepsApart.{keeps_apart}
 use Rattle.iofd_runs.proofs.KeepsFew.{keeps_few, opening_few, tabled_few}
 use Rattle.iofd_runs.proofs.KeepsFits.{keeps_fit, tabled_fit}
@@ -19,10 +19,15 @@ use Rattle.iofd_runs.specs.PinsFit.{AccessPinsFit}
 use Rattle.iofd_words.specs.Run.{IsRun, world_of}
 use Rattle.iofd_words.specs.Settings.{Settings}
 use Rattle.iofd_words.specs.Tables.{with_tables}
+use Rattle.iofd_words.specs.View.{view}
 use Rattle.iofd_words.specs.World.{opening}
 use Rattle.iofd_words.specs.declared.record.Record.{Record}
+use Rattle.iommufd_core.specs.Kept.{IsKept}
+use Rattle.server_state.proofs.ViewShown.{same_view}
 use Rattle.server_state.specs.Choice.{NoneIdle}
+use Rattle.server_state.specs.Seen.{seen}
 use Rattle.server_state.specs.Step.{IsTidy}
+use Rattle.server_state.specs.declared.state.State.{State}
 
 module _ {A : Type 0} where
   apart_run : (settings : Settings) (records : List (Record A)) → IsRun settings records
@@ -78,3 +83,10 @@ module _ {A : Type 0} where
             (opening_pins_fit settings);
         few = run_keeps RowsFew tabled_few keeps_few 0 (opening settings) records run (opening_few settings);
       }
+
+  -- what is kept is seen as the world that the records have left
+  pub same_kept : (state : State A) (counts : List ℕ) (records : List (Record A)) → IsKept state counts records
+      → seen state ≡ view (world_of state.config records)
+  same_kept state counts records kept =
+      same_view (world_of state.config records) state kept.shows
+      (tidy_run state.config records kept.run kept.used).tabled.owned

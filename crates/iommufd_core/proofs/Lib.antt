@@ -1,6 +1,7 @@
 pub mod Answering
 pub mod Applied
 pub mod Counted
+pub mod FewRanges
 pub mod Histories
 pub mod Opened
 pub mod Roomless

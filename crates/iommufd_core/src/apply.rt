@@ -128,14 +128,16 @@ impl<A: Allocator + Copy> Core<A> {
     /// keeps for itself, the allowed ones or not. The question changes nothing.
     ///
     /// Refused: Id (11, ENOENT), where the file isn't open or the id is no address space of it. It takes memory only
-    /// for the answer. Want of memory is also answered where there are more than 2^32 - 1 ranges, the most that the
-    /// command's structure counts.
+    /// for the answer. By the limits of objects and of devices there are never more ranges than the command's structure
+    /// counts.
     pub fn ranges(&self, file: FileNo, ioas: ObjId) -> Result<RangeSet<A>, CallError>
         ensures refused { refused_cause result
             ≡ first_true (ranges_checks (view (world self.now.history)) file ioas) }
         ensures ranges { IfOk result (λ set. AreUsableRanges (view (world self.now.history)) file ioas set.spans) }
         ensures few { IfOk result (λ set. length set.spans < 2 ^ 32) }
     {
+        // Its clause says that the configuration is within its limits: so there are few ranges.
+        let _ = self.state.config.pool();
         ranges::usable_ranges(&self.state, file, ioas)
     }
 

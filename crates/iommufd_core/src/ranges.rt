@@ -1,22 +1,18 @@
 //! The question for the usable ranges of an address space, refused or answered.
 
-ghost use Rattle.std.specs.Prelude.{◌≡◌, ◌<◌, ◌^◌, IfOk, length};
+ghost use Rattle.std.specs.Prelude.{◌≡◌, IfOk};
 ghost use Rattle.iofd_words.specs.FirstTrue.{first_true};
 ghost use Rattle.iofd_words.specs.Look.{AreUsableRanges, ranges_checks};
 ghost use Rattle.server_state.specs.Seen.{seen};
 ghost use Rattle.iommufd_core.specs.Refused.{refused_cause};
 
 use event_ioas::usable_ranges;
-use iofd_words::{CallError, FileNo, NoMemory, ObjId, Refusal};
+use iofd_words::{CallError, FileNo, ObjId, Refusal};
 use iova_ranges::RangeSet;
 use server_state::State;
 use std::alloc::Allocator;
 
-// How many ranges `struct iommu_ioas_iova_ranges` can count.
-const MOST_RANGES: usize = 0xffff_ffff;
-
-/// The usable ranges, unless the question is refused or memory is wanting. More ranges than the command's structure
-/// counts are answered as want of memory.
+/// The usable ranges, unless the question is refused or memory is wanting.
 pub(crate) fn usable_ranges<A: Allocator + Copy>(
     state: &State<A>,
     file: FileNo,
@@ -24,14 +20,9 @@ pub(crate) fn usable_ranges<A: Allocator + Copy>(
 ) -> Result<RangeSet<A>, CallError>
     ensures refused { refused_cause result ≡ first_true (ranges_checks (seen state.now) file ioas) }
     ensures ranges { IfOk result (λ set. AreUsableRanges (seen state.now) file ioas set.spans) }
-    ensures few { IfOk result (λ set. length set.spans < 2 ^ 32) }
 {
     if let Some(cause) = usable_ranges::refusal(state, file, ioas) {
         return Err(CallError::Refused(Refusal { cause }));
     }
-    let set = usable_ranges::usable_ranges(state, file, ioas)?;
-    if set.spans().len() > MOST_RANGES {
-        return Err(CallError::Memory(NoMemory));
-    }
-    Ok(set)
+    Ok(usable_ranges::usable_ranges(state, file, ioas)?)
 }

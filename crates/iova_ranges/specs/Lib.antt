@@ -1,5 +1,6 @@
 pub mod Adding
 pub mod Allowed
+pub mod AllowedRows
 pub mod Gaps
 pub mod Ranges
 pub mod RangeTable

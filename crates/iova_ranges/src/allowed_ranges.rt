@@ -2,7 +2,7 @@
 
 ghost use Rattle.std.specs.Prelude.{ℕ, ◌≡◌, ◌<◌, [], None, MatchOption, IfOk, OnOk, OnErr, length, filter};
 ghost use Rattle.std.specs.Prelude.{find, not, ◌==◌};
-ghost use Rattle.std.specs.Prelude.{◌&&◌, ◌||◌, ◌++◌, ◌∷◌, ◌≤◌};
+ghost use Rattle.std.specs.Prelude.{◌&&◌, ◌||◌, ◌++◌, ◌∷◌, ◌+◌, ◌≤◌};
 ghost use Rattle.std.specs.Prelude.{vec_len, vec_capacity};
 ghost use Rattle.std.specs.List.{list_any};
 ghost use Rattle.std.specs.Option.{option_copied};
@@ -131,26 +131,29 @@ fn add_range<A: Allocator>(set: &mut RangeSet<A>, range: IovaRange) -> Result<()
     }
 }
 
-/// The allowed ranges of all address spaces that have any. A contract sees the rows; what is asked of them is the
-/// ranges of an address space.
+/// The allowed ranges of all address spaces that have any. A contract sees the rows, of which the ranges of an address
+/// space are asked, and for how many more of them there is memory.
 #[derive(Drop)]
 pub struct AllowedTable<A: Allocator = Global> {
     rows: Vec<AllowedRow<A>, A>,
 }
 
 impl<A: Allocator> Model for AllowedTable<A> {
-    ghost use Rattle.std.specs.Prelude.{List};
-    ghost use Rattle.iofd_words.specs.Allowed.{AllowedRanges};
+    ghost use Rattle.std.specs.Prelude.{◌-◌, vec_capacity, vec_len};
+    ghost use Rattle.iova_ranges.specs.AllowedRows.{AllowedRows};
 
-    ghost Value = { List AllowedRanges };
+    ghost Value = { AllowedRows };
 
-    ghost view = { λ table. table.rows.items };
+    ghost view = { λ table. record {
+      rows = table.rows.items;
+      room = vec_capacity table.rows - vec_len table.rows;
+    } };
 }
 
 impl<A: Allocator> AllowedTable<A> {
     /// No rows. It takes no memory.
     pub fn new(alloc: A) -> AllowedTable<A>
-        ensures { result ≡ [] }
+        ensures { result.rows ≡ [] }
     {
         AllowedTable {
             rows: Vec::new(alloc),
@@ -160,8 +163,8 @@ impl<A: Allocator> AllowedTable<A> {
     /// The row of this address space. It takes no memory.
     pub fn of(&self, file: FileNo, ioas: ObjId) -> Option<&AllowedRow<A>>
         ensures { MatchOption result
-            (allowed_of self.now file ioas ≡ [])
-            (λ row. allowed_of self.now file ioas ≡ row.now.spans) }
+            (allowed_of self.now.rows file ioas ≡ [])
+            (λ row. allowed_of self.now.rows file ioas ≡ row.now.spans) }
     {
         match self.row_at(file, ioas) {
             Some(row) => Some(row),
@@ -171,17 +174,19 @@ impl<A: Allocator> AllowedTable<A> {
 
     // The row of this address space.
     fn row_at(&self, file: FileNo, ioas: ObjId) -> Option<&AllowedRow<A>>
-        ensures { option_copied result ≡ find (is_allowed_in file ioas) self.now }
+        ensures { option_copied result ≡ find (is_allowed_in file ioas) self.now.rows }
     {
         self.rows.iter().find(|row| row.is_at(file, ioas))
     }
 
     /// Puts the row in the place of the one that its address space had, if any: then it takes no memory. NoMemory
-    /// comes only where it had none, and leaves the rows as they were.
+    /// comes only where it had none and there was no room for one more, and leaves the rows as they were.
     pub fn set(&mut self, row: AllowedRow<A>) -> Result<(), NoMemory>
-        ensures rows { OnOk result (self.new ≡ without_allowed row.file row.ioas self.old ++ row ∷ []) }
-        ensures memory { OnErr result (find (is_allowed_in row.file row.ioas) self.old ≡ None) }
+        ensures rows { OnOk result (self.new.rows ≡ without_allowed row.file row.ioas self.old.rows ++ row ∷ []) }
+        ensures memory { OnErr result (find (is_allowed_in row.file row.ioas) self.old.rows ≡ None) }
+        ensures full { OnErr result (self.old.room ≡ 0) }
         ensures err { OnErr result (self.new ≡ self.old) }
+        ensures room { self.old.room ≤ self.new.room + 1 }
     {
         reserve_for(&mut self.rows, row.file, row.ioas)?;
         put(&mut self.rows, row);
@@ -190,14 +195,16 @@ impl<A: Allocator> AllowedTable<A> {
 
     /// Takes away the row of this address space, if it has one. It takes no memory.
     pub fn remove(&mut self, file: FileNo, ioas: ObjId)
-        ensures { self.new ≡ without_allowed file ioas self.old }
+        ensures rows { self.new.rows ≡ without_allowed file ioas self.old.rows }
+        ensures room { self.old.room ≤ self.new.room }
     {
         take_away(&mut self.rows, file, ioas);
     }
 
     /// Takes away the rows of this file's address spaces. It takes no memory.
     pub fn remove_file(&mut self, file: FileNo)
-        ensures { self.new ≡ filter (λ row. not (row.file.0 == file.0)) self.old }
+        ensures rows { self.new.rows ≡ filter (λ row. not (row.file.0 == file.0)) self.old.rows }
+        ensures room { self.old.room ≤ self.new.room }
     {
         self.rows.retain(|row| !row.is_of(file));
     }
@@ -212,6 +219,9 @@ fn reserve_for<A: Allocator>(
     ensures items { rows.new.items ≡ rows.old.items }
     ensures ok { OnOk result (length (without_allowed file ioas rows.old.items) < vec_capacity rows.new) }
     ensures memory { OnErr result (find (is_allowed_in file ioas) rows.old.items ≡ None) }
+    ensures full { OnErr result (vec_capacity rows.old ≤ vec_len rows.old) }
+    ensures err { OnErr result (vec_capacity rows.new ≡ vec_capacity rows.old) }
+    ensures capacity { vec_capacity rows.old ≤ vec_capacity rows.new }
 {
     if has_row(rows, file, ioas) {
         return Ok(());
@@ -232,7 +242,9 @@ fn has_row<A: Allocator>(rows: &[AllowedRow<A>], file: FileNo, ioas: ObjId) -> b
 // Puts the row behind the others, of which the one of its address space goes. There is room for it.
 fn put<A: Allocator>(rows: &mut Vec<AllowedRow<A>, A>, row: AllowedRow<A>)
     requires { length (without_allowed row.file row.ioas rows.old.items) < vec_capacity rows.old }
-    ensures { rows.new.items ≡ without_allowed row.file row.ioas rows.old.items ++ row ∷ [] }
+    ensures rows { rows.new.items ≡ without_allowed row.file row.ioas rows.old.items ++ row ∷ [] }
+    ensures len { vec_len rows.new ≤ vec_len rows.old + 1 }
+    ensures capacity { vec_capacity rows.old ≤ vec_capacity rows.new }
 {
     take_away(rows, row.file, row.ioas);
     let _ = rows.push(row);

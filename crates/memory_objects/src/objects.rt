@@ -95,16 +95,6 @@ impl<A: Allocator> MemoryObjects<A> {
         })
     }
 
-    /// How many areas lie over the object of this number. It takes no memory.
-    pub fn areas(&self, number: u64) -> Option<u64>
-        ensures { result ≡ option_map (λ object. object.areas) (object_at self.now.objects number) }
-    {
-        match lookups::object_at(&self.entries, number) {
-            Some(entry) => Some(entry.areas),
-            None => None,
-        }
-    }
-
     /// How many pins by page tables stand on the object of this number. It takes no memory.
     pub fn table_pins(&self, number: u64) -> Option<u64>
         ensures { result ≡ option_map (λ object. object.pages.pages.table_pins) (object_at self.now.objects number) }

@@ -3,6 +3,7 @@ use Rattle.std.proofs.Common.{◌≡◌, ℕ, zero, suc, ◌+◌, ◌<◌, ◌�
 use Rattle.std.proofs.Common.{Option, Some, None, is_some, List, [], ◌∷◌, length, refl, sym, ◌∙◌, ap, arith}
 use Rattle.std.specs.List.{list_all, list_any, slice_get}
 use Rattle.std.proofs.lemmas.Bool.Decides.{nat_tests}
+use Rattle.std.proofs.lemmas.List.Sums.{count_by-le-length}
 use Rattle.iofd_rows.proofs.Bools.{and_true, not_true}
 use Rattle.iofd_rows.proofs.Inserted.{count-inserted}
 use Rattle.iofd_rows.proofs.Moves.{device_is}
@@ -150,12 +151,12 @@ numbered_within xs (suc n) is = let low = within xs n is in omega (arith, low)
     within (x ∷ xs) (suc n) is = let rest = within xs n is in omega (arith, rest)
 
 -- devices that rise above one number and up to another are no more than lie between
-risen : (settings : Settings) (attachments : List Attachment) (f : FileNo) (i : ObjId) (low : ℕ)
-    → devices_rise attachments ≡ true → list_all (λ (a : Attachment). is_device settings a.device) attachments ≡ true
+risen : (settings : Settings) (attachments : List Attachment) (low : ℕ) → devices_rise attachments ≡ true
+    → list_all (λ (a : Attachment). is_device settings a.device) attachments ≡ true
     → list_all (λ (a : Attachment). ltb low a.device.0) attachments ≡ true → low ≤ length settings.devices
-    → devices_on attachments f i + low ≤ length settings.devices
-risen settings [] f i low rise known above within = omega (arith, within)
-risen settings (a ∷ attachments) f i low rise known above within =
+    → length attachments + low ≤ length settings.devices
+risen settings [] low rise known above within = omega (arith, within)
+risen settings (a ∷ attachments) low rise known above within =
     let rises = and_true (list_all (λ (b : Attachment). ltb a.device.0 b.device.0) attachments)
     (devices_rise attachments) rise in
     let knows = and_true (is_device settings a.device)
@@ -163,22 +164,17 @@ risen settings (a ∷ attachments) f i low rise known above within =
     let higher = and_true (ltb low a.device.0) (list_all (λ (b : Attachment). ltb low b.device.0) attachments) above in
     let here : low < a.device.0 = search (higher.0, arith, nat_tests) in
     let there = numbered_within settings.devices a.device.0 knows.0 in
-    let rest = risen settings attachments f i a.device.0 rises.1 knows.1 rises.0 there in
-    let all = count-cons (is_on f i) a attachments in
-    let one = at_most_one (is_on f i a) in
-    omega (arith, here, rest, all, one)
-  where
-    at_most_one : (b : Bool) → cond b 1 0 ≤ 1
-    at_most_one true = omega arith
-    at_most_one false = omega arith
+    let rest = risen settings attachments a.device.0 rises.1 knows.1 rises.0 there in
+    omega (arith, here, rest)
 
--- a server is opened with at most 256 devices
-few_settings : (settings : Settings) → first_outside settings ≡ None → length settings.devices ≤ 256
-few_settings settings inside =
-    at_most (length settings.devices) (and_true (leb (length settings.devices) 256)
-    (list_all is_device_in_limits settings.devices)
+-- a server is opened with at most 256 devices, each of them within its limits
+pub devices_inside : (settings : Settings) → first_outside settings ≡ None
+    → (length settings.devices ≤ 256) × (list_all is_device_in_limits settings.devices ≡ true)
+devices_inside settings inside =
+    let both = and_true (leb (length settings.devices) 256) (list_all is_device_in_limits settings.devices)
     (not_not (leb (length settings.devices) 256 && list_all is_device_in_limits settings.devices)
-    (tests_false rows 3 inside))).0
+    (tests_false rows 3 inside)) in
+    (at_most (length settings.devices) both.0, both.1)
   where
     rows : List (ConfigError × Bool)
     rows = (field.Pool, not (is_between 1 4096 settings.pool))
@@ -195,14 +191,13 @@ few_settings settings inside =
     at_most : (n : ℕ) → leb n 256 ≡ true → n ≤ 256
     at_most n is = search (is, arith, nat_tests)
 
--- so there are at most 256 of them
-pub few_on : (settings : Settings) (attachments : List Attachment) (f : FileNo) (i : ObjId)
-    → first_outside settings ≡ None → devices_rise attachments ≡ true
-    → list_all (λ (a : Attachment). is_device settings a.device) attachments ≡ true
-    → devices_on attachments f i ≤ 256
-few_on settings attachments f i inside rise known =
-    let many = few_settings settings inside in
-    let all = risen settings attachments f i 0 rise known (positive attachments known) (omega arith) in
+-- so at most 256 are attached
+pub few_attached : (settings : Settings) (attachments : List Attachment) → first_outside settings ≡ None
+    → devices_rise attachments ≡ true
+    → list_all (λ (a : Attachment). is_device settings a.device) attachments ≡ true → length attachments ≤ 256
+few_attached settings attachments inside rise known =
+    let many = (devices_inside settings inside).0 in
+    let all = risen settings attachments 0 rise known (positive attachments known) (omega arith) in
     omega (arith, many, all)
   where
     positive : (l : List Attachment) → list_all (λ (a : Attachment). is_device settings a.device) l ≡ true
@@ -216,3 +211,13 @@ few_on settings attachments f i inside rise known =
         at_least_one : (n : ℕ) → is_some (numbered settings.devices n) ≡ true → ltb 0 n ≡ true
         at_least_one zero is = cc
         at_least_one (suc n) is = grind (arith, nat_tests)
+
+-- and no more translate by one page table
+pub few_on : (settings : Settings) (attachments : List Attachment) (f : FileNo) (i : ObjId)
+    → first_outside settings ≡ None → devices_rise attachments ≡ true
+    → list_all (λ (a : Attachment). is_device settings a.device) attachments ≡ true
+    → devices_on attachments f i ≤ 256
+few_on settings attachments f i inside rise known =
+    let all = few_attached settings attachments inside rise known in
+    let some = count_by-le-length (is_on f i) attachments in
+    omega (arith, all, some)

@@ -117,7 +117,7 @@ module _ {A : Type 0} (w : World) (s : State A) (shows : Shows w s) where
         fun_ext (λ d. sym (shows.devices.bindings d)) in
         let areas : areas_at s.objects.rows ≡ area.areas_of w.areas =
         fun_ext (λ f. fun_ext (λ ioas. sym (shows.objects.spaces f ioas))) in
-        let allowed : allowed_of s.allowed ≡ allowed_of w.allowed =
+        let allowed : allowed_of s.allowed.rows ≡ allowed_of w.allowed =
         fun_ext (λ f. fun_ext (λ ioas. sym (shows.allowed f ioas))) in
         let pinned : kept.pinned_frame s.memory ≡ pin.pinned_frame w.pins =
         fun_ext (λ page. sym (shows.pins.frames page)) in

@@ -65,7 +65,7 @@ pub record Shows {A : Type 0} (w : World) (s : State A) : Type 0 where
   pub settings : w.settings ≡ s.config
   pub limits : s.memory.limits ≡ w.settings.users
   -- each address space has its allowed ranges
-  pub allowed : (file : FileNo) (ioas : ObjId) → allowed_of w.allowed file ioas ≡ allowed_of s.allowed file ioas
+  pub allowed : (file : FileNo) (ioas : ObjId) → allowed_of w.allowed file ioas ≡ allowed_of s.allowed.rows file ioas
   pub objects : ObjectsShown w.settings w.closed w.objects w.attachments w.areas s.objects
   pub devices : DevicesShown w.objects w.attachments s.bindings.items s.attachments.items
   pub users : UsersShown w.user_pages s.memory.pages

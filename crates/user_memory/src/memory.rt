@@ -213,16 +213,6 @@ impl<A: Allocator> UserMemory<A> {
         self.objects.new_pages(numbers)
     }
 
-    /// Whether one more area over the object of this number can be counted.
-    pub fn counts_more(&self, number: u64) -> bool
-        ensures { result ≡ nat_lt (areas_over self.now number + 1) (2 ^ 64) }
-    {
-        match self.objects.areas(number) {
-            Some(areas) => areas < u64::MAX,
-            None => true,
-        }
-    }
-
     /// Gives the user the page that holds this user address: the least free frame, which reads zero. The user hasn't
     /// the page, and a frame is free. NoMemory comes only where there was no room for one more page; an error changes
     /// nothing.

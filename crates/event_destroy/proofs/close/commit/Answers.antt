@@ -37,6 +37,6 @@ returns-clause-ok g c = λ at via w tidy shows none may.
     c.remove_file-2.new.self c.remove_file-2.new.pool c.remove_file-2.ensures.tables c.remove_file-2.ensures.stand
     c.remove_file-2.ensures.pool
     c.close_table.new.table c.detach_all.new.attachments c.remove_file.new.self c.stop_file.new.self
-    c.close_table.ensures c.detach_all.ensures c.remove_file.ensures
+    c.close_table.ensures c.detach_all.ensures c.remove_file.ensures.rows
     (dirty_closed w.tracked c.args.state.now.dirty c.stop_file.new.self shows.dirty c.args.file
     c.stop_file.ensures.tracks c.stop_file.ensures.marks))

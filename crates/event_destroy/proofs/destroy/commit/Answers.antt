@@ -23,7 +23,7 @@ returns-in-Some-Ioas-clause-ok g c = λ at via w tidy shows none may.
     _ (c.reserve_given.ensures.same ∙ c.requires.none)
     (space_destroyed at w c.args.state.now c.args.file c.args.id tidy shows none is_kind
     c.remove_object.new.table c.remove_space.new.memory c.remove_space.new.pool c.remove.new.self c.stop.new.self
-    c.remove_object.ensures.rows c.remove_object.ensures.files c.remove_space.ensures c.remove.ensures
+    c.remove_object.ensures.rows c.remove_object.ensures.files c.remove_space.ensures c.remove.ensures.rows
     (dirty_stopped w.tracked c.args.state.now.dirty c.stop.new.self shows.dirty c.args.file c.args.id
     c.stop.ensures.tracks c.stop.ensures.marks))
 
@@ -39,7 +39,7 @@ returns-in-Some-Hwpt-clause-ok g c = λ at via w tidy shows none may.
     shows_lost at w c.args.state.now c.args.file c.args.id c.in-Some-Hwpt.ioas c.in-Some-Hwpt.field-0-1
     c.in-Some-Hwpt.field-0-2 c.remove.new.self c.stop.new.self tidy shows none
     (sym c.in-Some-Hwpt.ensures ∙ ap Some c.in-Some-Hwpt.field-0-is) c.remove_page_table.new.state
-    c.remove_page_table.ensures.state c.remove.ensures
+    c.remove_page_table.ensures.state c.remove.ensures.rows
     (dirty_stopped w.tracked c.args.state.now.dirty c.stop.new.self shows.dirty c.args.file c.args.id
     c.stop.ensures.tracks c.stop.ensures.marks) via c.reserve_given.new.given.items
     c.remove_page_table.new.given.items
@@ -52,7 +52,7 @@ returns-in-Some-Access-clause-ok g c = λ at via w tidy shows none may.
     c.reserve_given.new.given.items _ (c.reserve_given.ensures.same ∙ c.requires.none)
     (access_destroyed at w c.args.state.now c.args.file c.args.id _ tidy shows none is_kind
     c.remove_object-in-Some-Access.new.table c.remove.new.self c.stop.new.self
-    c.remove_object-in-Some-Access.ensures.rows c.remove_object-in-Some-Access.ensures.files c.remove.ensures
+    c.remove_object-in-Some-Access.ensures.rows c.remove_object-in-Some-Access.ensures.files c.remove.ensures.rows
     (dirty_stopped w.tracked c.args.state.now.dirty c.stop.new.self shows.dirty c.args.file c.args.id
     c.stop.ensures.tracks c.stop.ensures.marks))
 

@@ -14,7 +14,7 @@ returns-then-is_empty-clause-ok g c =
     λ at w tidy shows none. (
       tt,
       shows_lifted w c.args.state.now c.args.file c.args.ioas c.args.ranges.now
-          c.remove.new.self shows none_there c.remove.ensures,
+          c.remove.new.self shows none_there c.remove.ensures.rows,
     )
 
 pub returns-clause-ok : goal.returns-clause-ok
@@ -23,9 +23,9 @@ returns-clause-ok g c = λ at w tidy shows none. (
   tt,
   shows_allowed w c.args.state.now c.args.file c.args.ioas c.args.ranges.now c.set.new.self shows
       (c.in_ok-set.ensures.rows
-      ∙ ap (λ (row : AllowedRanges). without_allowed row.file row.ioas c.args.state.now.allowed ++ row
+      ∙ ap (λ (row : AllowedRanges). without_allowed row.file row.ioas c.args.state.now.allowed.rows ++ row
       ∷ []) c.in_ok-row.ensures.ok
-      ∙ ap (λ ranges. without_allowed c.args.file c.args.ioas c.args.state.now.allowed ++ record {
+      ∙ ap (λ ranges. without_allowed c.args.file c.args.ioas c.args.state.now.allowed.rows ++ record {
         file = c.args.file;
         ioas = c.args.ioas;
         spans = ranges;

@@ -18,7 +18,7 @@ use Rattle.event_map.proofs.AreaPlaced.{area_comes, area_taken, has_place, has_u
 use Rattle.event_map.proofs.AreaPlaced.{shows_unpinned}
 use Rattle.event_map.proofs.Chosen.{is_spanned}
 use Rattle.event_map.proofs.Copied.{IsCopiedAs, is_over, shows_copied}
-use Rattle.event_map.proofs.CopyGranted.{can_map, enough_there, own, passed, placed, present, room, there}
+use Rattle.event_map.proofs.CopyGranted.{can_map, enough_there, few_over, own, passed, placed, present, room, there}
 use Rattle.event_map.proofs.MayMap.{no_table_over}
 use Rattle.event_map.proofs.PlaceAsks.{span_usable, span_whole}
 use Rattle.event_map.specs.AreaMapped.{CanMapArea, IsAreaMapped}
@@ -105,6 +105,10 @@ pub share-requires-clause-there : goal.share-requires-clause-there
 share-requires-clause-there g c = there c.requires.granted.at c.args.state.now c.args.file c.args.request
     c.requires.granted.granted c.in-Some-source_number.number (sym c.source_number.ensures ∙ c.in-Some-source_number.is)
     c.in-Some.user (sym c.user_of.ensures.value ∙ c.in-Some.is)
+
+pub share-requires-clause-few : goal.share-requires-clause-few
+share-requires-clause-few g c = few_over c.requires.granted.at c.args.state.now c.args.file c.args.request
+    c.requires.granted.granted c.in-Some-source_number.number
 
 pub share-requires-clause-own : goal.share-requires-clause-own
 share-requires-clause-own g c = λ translated.
