@@ -19,27 +19,28 @@ fn devices(global: Global) -> Option<Vec<DeviceConfig>> {
     }
 }
 
-// A pool of 16 frames, users of whom the first may have 8 pinned pages and the second 2, two files of user 1 and one of
-// user 2, a device, and so many passes.
-fn config(global: Global, passes: u16) -> Option<Config> {
+/// A pool of so many frames, users of whom the first may have so many pinned pages and the second 2, two files of user
+/// 1 and one of user 2, a device, and so many passes.
+pub fn config(global: Global, frames: u32, pinned: u64, passes: u16) -> Option<Config> {
     match (
-        [8, 2].to_vec(global),
+        [pinned, 2].to_vec(global),
         [UserNo(1), UserNo(1), UserNo(2)].to_vec(global),
         devices(global),
     ) {
         (Ok(users), Ok(files), Some(devices)) => Config::new(
-            16, users, files, devices, passes,
+            frames, users, files, devices, passes,
         ).ok(),
         _ => None,
     }
 }
 
 // The key of the first device.
-fn first_key(server: &Server, keys: &mut Vec<PortKey>) -> Option<PortKey>
-    requires { AllKeys server.now 1 keys.old.items }
+fn first_key(server: &Server, keys: &mut Vec<PortKey>, cache: u16) -> Option<PortKey>
+    requires { AllKeys server.now cache keys.old.items }
     ensures { IfSome result (IsKeyOf server.now) }
 {
     let _ = server;
+    let _ = cache;
     if keys.is_empty() {
         None
     } else {
@@ -47,11 +48,17 @@ fn first_key(server: &Server, keys: &mut Vec<PortKey>) -> Option<PortKey>
     }
 }
 
-fn opened_with(global: Global, config: &Config) -> Option<(Server, PortKey, Vec<Pass>)>
+/// A server with so many lanes, whose ports keep so many pages, with the key of its device and its passes.
+pub fn opened_with(
+    global: Global,
+    config: &Config,
+    lanes: u16,
+    cache: u16,
+) -> Option<(Server, PortKey, Vec<Pass>)>
     ensures { IfSome result (λ r. IsKeyOf r.0 r.1 × ArePassesOf r.0 r.2.items) }
 {
-    match Server::new(global, global, config, 2, 1) {
-        Ok((server, passes, mut keys)) => match first_key(&server, &mut keys) {
+    match Server::new(global, global, config, lanes, cache) {
+        Ok((server, passes, mut keys)) => match first_key(&server, &mut keys, cache) {
             Some(key) => Some((server, key, passes)),
             None => None,
         },
@@ -59,12 +66,12 @@ fn opened_with(global: Global, config: &Config) -> Option<(Server, PortKey, Vec<
     }
 }
 
-/// A server with two lanes, whose ports keep one page, with the key of its device and so many passes.
+/// A server of 16 frames with two lanes, whose ports keep one page, with the key of its device and so many passes.
 pub fn opened(global: Global, passes: u16) -> Option<(Server, PortKey, Vec<Pass>)>
     ensures { IfSome result (λ r. IsKeyOf r.0 r.1 × ArePassesOf r.0 r.2.items) }
 {
-    match config(global, passes) {
-        Some(config) => opened_with(global, &config),
+    match config(global, 16, 8, passes) {
+        Some(config) => opened_with(global, &config, 2, 1),
         None => None,
     }
 }

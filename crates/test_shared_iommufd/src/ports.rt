@@ -84,14 +84,16 @@ fn is_translated<R: Wait>(rt: &R, server: &Server, port: &mut Port, kind: Access
     port.translate(rt, server, PAGE, kind) == Some(translation)
 }
 
-fn is_answered(stamp: Result<Stamp, NoMemory>, reply: Reply) -> bool {
+/// Whether a record was made with this reply.
+pub fn is_answered(stamp: Result<Stamp, NoMemory>, reply: Reply) -> bool {
     match stamp {
         Ok(stamp) => stamp.reply == reply,
         Err(NoMemory) => false,
     }
 }
 
-fn attaches<R: Wait>(rt: &R, server: &Server, port: &mut Port) -> bool
+/// Whether the device is attached to the first object of its file by a page table that is the third.
+pub fn attaches<R: Wait>(rt: &R, server: &Server, port: &mut Port) -> bool
     requires { IsPortOf server.now port.old }
     ensures { IsPortOf server.now port.new }
 {
@@ -231,8 +233,8 @@ fn is_served<R: Wait>(
         && keeps(rt, global, server, port, pass)
 }
 
-// The port, closed and opened again.
-fn reopened(server: &Server, port: Port) -> Port
+/// The port, closed and opened again.
+pub fn reopened(server: &Server, port: Port) -> Port
     requires { IsPortOf server.now port }
     ensures { IsPortOf server.now result }
 {
