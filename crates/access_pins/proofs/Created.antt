@@ -1,7 +1,7 @@
 -- A file takes one more object, where nothing refuses the access object.
 use Rattle.std.proofs.Common.{◌≡◌, None}
 use Rattle.iofd_runs.proofs.NotRefused.{access_create_passed}
-use Rattle.iofd_words.specs.Checks.{access_create_checks}
+use Rattle.iofd_refusals.specs.Checks.{access_create_checks}
 use Rattle.iofd_words.specs.FirstTrue.{first_true}
 use Rattle.iofd_words.specs.View.{view}
 use Rattle.iofd_words.specs.World.{World}

@@ -22,7 +22,7 @@ use Rattle.iofd_runs.specs.Fits.{begins_at_page, is_of_pages}
 use Rattle.iofd_words.specs.Accesses.{is_spanned, lacks_accessed_page, newly_accessed}
 use Rattle.iofd_words.specs.Areas.{areas_of, is_of, most_areas}
 use Rattle.iofd_words.specs.Bounds.{Bounds}
-use Rattle.iofd_words.specs.Checks.{passes_limit, passes_limit_accessed}
+use Rattle.iofd_refusals.specs.Checks.{passes_limit, passes_limit_accessed}
 use Rattle.iofd_words.specs.Files.{user_of}
 use Rattle.iofd_words.specs.Pages.{is_whole}
 use Rattle.iofd_words.specs.Pins.{ObjectPage, is_page, pages_of, unpinned_pages}

@@ -34,11 +34,11 @@ use Rattle.iofd_runs.proofs.KeepsPins.{keeps_pins, later_pinned}
 use Rattle.iofd_runs.specs.Owned.{is_of_files_user, is_over_own}
 use Rattle.iofd_runs.specs.PinsFit.{is_fitting_pin}
 use Rattle.iofd_words.specs.Accesses.{newly_accessed, pin_of, pinned_span}
-use Rattle.iofd_words.specs.After.{access_pinned, changed, settle}
-use Rattle.iofd_words.specs.Answers.{Answers}
+use Rattle.iofd_steps.specs.After.{access_pinned, changed, settle}
+use Rattle.iofd_steps.specs.Answers.{Answers}
 use Rattle.iofd_words.specs.Areas.{areas_of, is_of}
 use Rattle.iofd_words.specs.Bounds.{Bounds}
-use Rattle.iofd_words.specs.Checks.{access_pin_checks, passes_limit}
+use Rattle.iofd_refusals.specs.Checks.{access_pin_checks, passes_limit}
 use Rattle.iofd_words.specs.Files.{is_user, user_of}
 use Rattle.iofd_words.specs.FirstTrue.{first_true}
 use Rattle.iofd_words.specs.Objects.{access_ioas_of, is_access_to}

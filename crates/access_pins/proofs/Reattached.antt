@@ -2,7 +2,7 @@
 use Rattle.std.proofs.Common.{◌≡◌, ℕ, ◌+◌, ◌-◌, ◌<◌, ◌≤◌, Bool, true, false, is_none, is_some, Option, Some, None, List}
 use Rattle.std.proofs.Common.{length, refl, sym, ◌∙◌, ap, arith}
 use Rattle.iofd_runs.proofs.NotRefused.{access_attach_passed, access_detach_passed}
-use Rattle.iofd_words.specs.Checks.{access_attach_checks, access_detach_checks}
+use Rattle.iofd_refusals.specs.Checks.{access_attach_checks, access_detach_checks}
 use Rattle.iofd_words.specs.FirstTrue.{first_true}
 use Rattle.iofd_words.specs.Objects.{access_ioas, access_ioas_of, has_access, has_ioas, is_hwpt, is_ioas, kind_of}
 use Rattle.iofd_words.specs.Objects.{objects_of, with_access}
@@ -17,8 +17,8 @@ use Rattle.object_table.specs.Table.{Table, rows_of}
 use Rattle.server_state.proofs.AccessPinsStay.{holders_stay}
 use Rattle.iofd_words.specs.declared.event.Event.TheVariants as event
 use Rattle.iofd_words.specs.declared.reply.Reply.TheVariants as reply
-use Rattle.iofd_words.specs.After.{changed}
-use Rattle.iofd_words.specs.Answers.{Answers}
+use Rattle.iofd_steps.specs.After.{changed}
+use Rattle.iofd_steps.specs.Answers.{Answers}
 use Rattle.server_state.proofs.AccessesHeld.{access_of}
 use Rattle.server_state.proofs.AccessesShown.{attached_shown, attached_space, detached_shown}
 use Rattle.server_state.proofs.Counted.{few_users}
@@ -53,27 +53,26 @@ module _ {A : Type 0} (at : ℕ) (w : World) (s : State A) (file : FileNo) (id :
   keep test is = ap test (sym shows.objects.rows) ∙ is
 
   -- its address space has few users
-  few_there : (ioas : ObjId) (count : ℕ) → has_ioas w.objects file ioas ≡ true
-      → count ≡ length (rows_of s.objects file) → count ≤ 65535 → users_at s.objects.rows file ioas < 4294967295
-  few_there ioas count space is few =
+  few_there : (ioas : ObjId) → has_ioas w.objects file ioas ≡ true → length (rows_of s.objects file) ≤ 65535
+      → users_at s.objects.rows file ioas < 4294967295
+  few_there ioas space few =
       let many = few_users w.objects file ioas in
-      let same : length (objects_of w.objects file) ≡ count =
-      ap (λ (l : List Object). length (objects_of l file)) shows.objects.rows
-      ∙ same_count s.objects.rows file ∙ sym is in
+      let same : length (objects_of w.objects file) ≡ length (rows_of s.objects file) =
+      ap (λ (l : List Object). length (objects_of l file)) shows.objects.rows ∙ same_count s.objects.rows file in
       let none = on_tables w.objects w.attachments file ioas tidy.debts.tables
       (no_table (kind_of w.objects file ioas) space) in
       let counted = shows.objects.counted file ioas in
       omega (arith, many, same, none, counted, few)
 
-  pub shows_attached : (ioas : ObjId) (table : Table (Held A)) (count : ℕ)
+  pub shows_attached : (ioas : ObjId) (table : Table (Held A))
       → first_true (access_attach_checks (view w) file id ioas) ≡ None
-      → count ≡ length (rows_of s.objects file) → count ≤ 65535
+      → length (rows_of s.objects file) ≤ 65535
       → (IsOrderly s.objects → has_access (objects_in s.objects) file id ≡ true
       → has_ioas (objects_in s.objects) file ioas ≡ true → users_at s.objects.rows file ioas < 4294967295
       → HasAccess file id (Some ioas) (λ f i. one_at file ioas f i + users_at s.objects.rows f i) s.objects table)
       → Shows (record w { objects = with_access file id (Some ioas) w.objects }) (record s { objects = table })
   unfolding changed Answers
-  shows_attached ioas table count none is few attaches =
+  shows_attached ioas table none few attaches =
       let passed = access_attach_passed (view w) file id ioas none in
       let (before, is_kind) = access_of (kind_of w.objects file id) passed.there in
       let unattached : is_some before ≡ false =
@@ -81,7 +80,7 @@ module _ {A : Type 0} (at : ℕ) (w : World) (s : State A) (file : FileNo) (id :
       (sym is_kind) ∙ passed.unattached in
       attached_shown at w s file id before table tidy shows is_kind ioas (to_nothing before unattached) passed.space
       (attaches (orderly at w s tidy shows) (keep (λ l. has_access l file id) passed.there)
-      (keep (λ l. has_ioas l file ioas) passed.space) (few_there ioas count passed.space is few))
+      (keep (λ l. has_ioas l file ioas) passed.space) (few_there ioas passed.space few))
       (holders_stay {A = A} at w (event.AccessAttach file id ioas) reply.Done none tt)
     where
       to_nothing : (o : Option ObjId) → is_some o ≡ false → o ≡ None

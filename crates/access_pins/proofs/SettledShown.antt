@@ -4,7 +4,7 @@ use Rattle.std.specs.List.{count_by}
 use Rattle.frame_memory.specs.Pool.{FramePool}
 use Rattle.held_pins.specs.declared.pin.HeldPin.{HeldPin}
 use Rattle.iofd_rows.specs.Pinned.{ArePinned}
-use Rattle.iofd_words.specs.After.{settle}
+use Rattle.iofd_steps.specs.After.{settle}
 use Rattle.iofd_words.specs.Areas.{areas_of}
 use Rattle.iofd_words.specs.Frames.{frame_at}
 use Rattle.iofd_words.specs.Objects.{has_hwpt}

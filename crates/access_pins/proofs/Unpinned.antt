@@ -17,10 +17,10 @@ use Rattle.iofd_rows.specs.Pinned.{ArePinned}
 use Rattle.iofd_runs.proofs.AccessesPassed.{access_unpin_passed}
 use Rattle.iofd_runs.proofs.KeepsPins.{keeps_pins}
 use Rattle.iofd_words.specs.Accesses.{pin_of}
-use Rattle.iofd_words.specs.After.{access_unpinned, changed}
-use Rattle.iofd_words.specs.Answers.{Answers}
+use Rattle.iofd_steps.specs.After.{access_unpinned, changed}
+use Rattle.iofd_steps.specs.Answers.{Answers}
 use Rattle.iofd_words.specs.Areas.{areas_of}
-use Rattle.iofd_words.specs.Checks.{access_unpin_checks}
+use Rattle.iofd_refusals.specs.Checks.{access_unpin_checks}
 use Rattle.iofd_words.specs.FirstTrue.{first_true}
 use Rattle.iofd_words.specs.Objects.{access_ioas_of}
 use Rattle.iofd_words.specs.Pins.{ObjectPage, is_held, without_pin}

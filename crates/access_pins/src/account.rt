@@ -4,7 +4,7 @@ ghost use Rattle.std.specs.Prelude.{◌≡◌, ◌≤◌, ◌∷◌, [], length,
 ghost use Rattle.std.specs.List.{count_by, list_all};
 ghost use Rattle.access_pages.specs.Runs as runs;
 ghost use Rattle.iofd_words.specs.Areas.{most_areas};
-ghost use Rattle.iofd_words.specs.Checks.{passes_limit};
+ghost use Rattle.iofd_refusals.specs.Checks.{passes_limit};
 ghost use Rattle.iofd_words.specs.Files.{user_of};
 ghost use Rattle.iofd_words.specs.Span.{meets};
 ghost use Rattle.memory_objects.specs.Runs.{covers};

@@ -1,7 +1,7 @@
 //! AccessAttach: an access object is attached to an address space.
 
 ghost use Rattle.std.specs.Prelude.{◌≡◌, ℕ};
-ghost use Rattle.iofd_words.specs.Checks.{access_attach_checks};
+ghost use Rattle.iofd_refusals.specs.Checks.{access_attach_checks};
 ghost use Rattle.iofd_words.specs.FirstTrue.{first_true};
 ghost use Rattle.iofd_words.specs.Objects as objects;
 ghost use Rattle.iofd_words.specs.declared.event.Event.TheVariants as event;
@@ -18,7 +18,7 @@ use std::alloc::Allocator;
 ///
 /// Refused by 11 (ENOENT, `Cause::Id`) where the file isn't open, has no access object of the first id or no address
 /// space of the second, then by 13 (EBUSY, `Cause::Bound`) where the access object is attached already.
-#[tactic(auto, unfolding(iofd_words::specs::Checks::access_attach_checks))]
+#[tactic(auto, unfolding(iofd_refusals::specs::Checks::access_attach_checks))]
 pub fn refusal<A: Allocator>(
     state: &State<A>,
     file: FileNo,
@@ -57,8 +57,8 @@ pub fn commit<A: Allocator>(state: &mut State<A>, file: FileNo, id: ObjId, ioas:
     requires { IsGranted (event.AccessAttach file id ioas) state.old }
     ensures { (at : ℕ) → Steps at (event.AccessAttach file id ioas) state.old result state.new }
 {
-    // Its clause says that the file has few objects: so its address space has few users.
-    let _ = state.objects.count(file);
+    // The file has few objects: so its address space has few users.
+    state.objects.facts(file);
     access_changes::attach(&mut state.objects, file, id, ioas);
     Reply::Done
 }

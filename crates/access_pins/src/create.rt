@@ -1,7 +1,7 @@
 //! AccessCreate: a file gets an access object.
 
 ghost use Rattle.std.specs.Prelude.{◌≡◌, ℕ, IfOk, OnErr};
-ghost use Rattle.iofd_words.specs.Checks.{access_create_checks};
+ghost use Rattle.iofd_refusals.specs.Checks.{access_create_checks};
 ghost use Rattle.iofd_words.specs.FirstTrue.{first_true};
 ghost use Rattle.iofd_words.specs.Objects as objects;
 ghost use Rattle.iofd_words.specs.declared.event.Event.TheVariants as event;
@@ -18,7 +18,7 @@ use std::alloc::Allocator;
 ///
 /// Refused by 11 (ENOENT, `Cause::Id`) where the file isn't open, then by 23 (ENOSPC, `Cause::Full`) where it has
 /// 65,535 objects.
-#[tactic(auto, unfolding(iofd_words::specs::Checks::access_create_checks))]
+#[tactic(auto, unfolding(iofd_refusals::specs::Checks::access_create_checks))]
 pub fn refusal<A: Allocator>(state: &State<A>, file: FileNo) -> Option<Cause>
     ensures { result ≡ first_true (access_create_checks (seen state.now) file) }
 {

@@ -1,7 +1,7 @@
 //! AccessDetach: an access object is attached no more.
 
 ghost use Rattle.std.specs.Prelude.{◌≡◌, ℕ};
-ghost use Rattle.iofd_words.specs.Checks.{access_detach_checks};
+ghost use Rattle.iofd_refusals.specs.Checks.{access_detach_checks};
 ghost use Rattle.iofd_words.specs.FirstTrue.{first_true};
 ghost use Rattle.iofd_words.specs.declared.event.Event.TheVariants as event;
 ghost use Rattle.server_state.specs.Seen.{seen};
@@ -16,7 +16,7 @@ use std::alloc::Allocator;
 ///
 /// Refused by 11 (ENOENT, `Cause::Id`) where the file isn't open or has no access object of this id, then by 28
 /// (ENOENT, `Cause::Unattached`) where that isn't attached, then by 12 (EBUSY, `Cause::InUse`) where it holds a pin.
-#[tactic(auto, unfolding(iofd_words::specs::Checks::access_detach_checks))]
+#[tactic(auto, unfolding(iofd_refusals::specs::Checks::access_detach_checks))]
 pub fn refusal<A: Allocator>(state: &State<A>, file: FileNo, id: ObjId) -> Option<Cause>
     ensures { result ≡ first_true (access_detach_checks (seen state.now) file id) }
 {

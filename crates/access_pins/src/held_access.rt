@@ -5,7 +5,7 @@ ghost use Rattle.std.specs.Option.{option_copied};
 ghost use Rattle.held_pins.specs.HeldPins.{is_covered};
 ghost use Rattle.iofd_words.specs.Accesses.{accessed_frame};
 ghost use Rattle.iofd_words.specs.Areas.{area_at};
-ghost use Rattle.iofd_words.specs.Checks.{held_access_checks};
+ghost use Rattle.iofd_refusals.specs.Checks.{held_access_checks};
 ghost use Rattle.iofd_words.specs.FirstTrue.{first_true};
 ghost use Rattle.iofd_words.specs.Policy.{page_in};
 ghost use Rattle.iofd_words.specs.declared.fault.AccessKind.TheVariants as kinds;

@@ -4,7 +4,7 @@ ghost use Rattle.std.specs.Prelude.{◌≡◌, ◌<◌, ◌&&◌, not, map, filt
 ghost use Rattle.held_pins.specs.HeldPins.{are_own_met};
 ghost use Rattle.iofd_words.specs.Accesses.{notices};
 ghost use Rattle.iofd_words.specs.FirstTrue.{first_true};
-ghost use Rattle.iofd_words.specs.Look.{notices_checks};
+ghost use Rattle.iofd_steps.specs.Look.{notices_checks};
 ghost use Rattle.iofd_words.specs.TablePlaces.{is_live};
 ghost use Rattle.server_state.specs.Seen.{seen};
 

@@ -6,7 +6,7 @@ ghost use Rattle.access_pages.specs.Runs as runs;
 ghost use Rattle.iofd_runs.specs.Fits.{begins_at_page, is_of_pages};
 ghost use Rattle.iofd_words.specs.Accesses.{has_gap, lacks_accessed_page, lacks_right, meets_leaving};
 ghost use Rattle.iofd_words.specs.Accesses.{meets_without_right, pin_of};
-ghost use Rattle.iofd_words.specs.Checks.{access_pin_checks, passes_limit_accessed, pin_checks_in};
+ghost use Rattle.iofd_refusals.specs.Checks.{access_pin_checks, passes_limit_accessed, pin_checks_in};
 ghost use Rattle.iofd_words.specs.FirstTrue.{first_true};
 ghost use Rattle.iofd_words.specs.Objects.{access_ioas_of};
 ghost use Rattle.iofd_words.specs.Pages.{is_whole};
@@ -42,7 +42,7 @@ use user_memory::UserMemory;
 /// pins, then by 8 (EFAULT, `Cause::Absent`) where a page isn't pinned and isn't in its user's memory, and then by 7
 /// (ENOMEM, `Cause::Account`) where with the pages that would be pinned anew the file's user would have more pinned
 /// pages than the limit allows.
-#[tactic(auto, unfolding(iofd_words::specs::Checks::access_pin_checks))]
+#[tactic(auto, unfolding(iofd_refusals::specs::Checks::access_pin_checks))]
 pub fn refusal<A: Allocator>(
     state: &State<A>,
     file: FileNo,
@@ -95,8 +95,7 @@ pub fn commit<A: Allocator + Copy>(
     let Some(areas) = lookups::areas_of(&state.objects, file, ioas) else {
         unreachable!()
     };
-    // They lie apart.
-    let _ = areas.len();
+    areas.facts();
     let span = pin.span;
     let met = meeting(areas, span);
     access_pages::pin_all(met, span, &mut state.memory, &mut state.pool)?;
@@ -202,8 +201,8 @@ fn refusal_by_pages<A: Allocator>(
         ∷ (Cause.Account, passes_limit_accessed (seen state.now) file ioas span)
         ∷ []) }
 {
-    // Their clauses say that the areas are few, and that they and the span have addresses.
-    let _ = (areas.len(), span.first());
+    areas.facts();
+    span.facts();
     if lacks_page(met.again(), span, &state.memory) {
         return Some(Cause::Absent);
     }
@@ -220,7 +219,7 @@ fn has_gap<A: Allocator>(areas: &Areas<A>, span: Span) -> bool
     requires starts { list_all begins_at_page areas.now.areas ≡ true }
     ensures { result ≡ has_gap span areas.now.areas }
 {
-    let _ = span.first();
+    span.facts();
     areas.covered(span).is_err()
 }
 

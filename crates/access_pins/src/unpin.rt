@@ -3,7 +3,7 @@
 ghost use Rattle.std.specs.Prelude.{◌≡◌, ℕ, Some};
 ghost use Rattle.std.specs.List.{list_any};
 ghost use Rattle.iofd_words.specs.Accesses.{pin_of};
-ghost use Rattle.iofd_words.specs.Checks.{access_unpin_checks};
+ghost use Rattle.iofd_refusals.specs.Checks.{access_unpin_checks};
 ghost use Rattle.iofd_words.specs.FirstTrue.{first_true};
 ghost use Rattle.iofd_words.specs.Objects.{access_ioas_of};
 ghost use Rattle.iofd_words.specs.Pins.{is_equal};
@@ -23,7 +23,7 @@ use std::alloc::Allocator;
 /// Refused by 11 (ENOENT, `Cause::Id`) where the file isn't open or has no access object of this id, then by 28
 /// (ENOENT, `Cause::Unattached`) where that isn't attached, then by 18 (EINVAL, `Cause::NotHeld`) where it holds no pin
 /// of just these addresses, for writes too or for reads alone as is said.
-#[tactic(auto, unfolding(iofd_words::specs::Checks::access_unpin_checks))]
+#[tactic(auto, unfolding(iofd_refusals::specs::Checks::access_unpin_checks))]
 pub fn refusal<A: Allocator>(
     state: &State<A>,
     file: FileNo,
@@ -73,8 +73,7 @@ pub fn commit<A: Allocator + Copy>(
         // It is attached to an address space.
         unreachable!()
     };
-    // They lie apart.
-    let _ = areas.len();
+    areas.facts();
     let areas = access_pages::meeting(areas, pin.span);
     access_pages::unpin_all(areas, pin.span, &mut state.memory, &mut state.pool);
     state.access_pins.unpin(pin);

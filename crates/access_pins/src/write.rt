@@ -1,7 +1,7 @@
 //! AccessWrite: an access object writes what it has pinned.
 
 ghost use Rattle.std.specs.Prelude.{◌≡◌, ℕ};
-ghost use Rattle.iofd_words.specs.Checks.{access_write_checks};
+ghost use Rattle.iofd_refusals.specs.Checks.{access_write_checks};
 ghost use Rattle.iofd_words.specs.FirstTrue.{first_true};
 ghost use Rattle.iofd_words.specs.declared.event.Event.TheVariants as event;
 ghost use Rattle.server_state.specs.Seen.{seen};
@@ -18,7 +18,7 @@ use std::alloc::Allocator;
 /// (ENOENT, `Cause::Unattached`) where that isn't attached, then by 26 (EINVAL, `Cause::Cross`) where the bytes leave
 /// the page, then by 18 (EINVAL, `Cause::NotHeld`) where no pin of it covers the page, and then by 16 (EPERM,
 /// `Cause::Rights`) where none that does is for writes.
-#[tactic(auto, unfolding(iofd_words::specs::Checks::access_write_checks))]
+#[tactic(auto, unfolding(iofd_refusals::specs::Checks::access_write_checks))]
 pub fn refusal<A: Allocator>(
     state: &State<A>,
     file: FileNo,

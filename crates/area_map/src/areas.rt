@@ -1,7 +1,7 @@
 //! The map of areas.
 
-ghost use Rattle.std.specs.Prelude.{◌≡◌, ◌==◌, ◌↔◌, ◌+◌, ◌*◌, ◌<◌, ◌≤◌, [], find, length};
-ghost use Rattle.std.specs.Prelude.{map, nat_le, not, is_ok, IsOk, IfOk};
+ghost use Rattle.std.specs.Prelude.{◌≡◌, ◌==◌, ◌↔◌, ◌+◌, ◌*◌, ◌^◌, ◌<◌, ◌≤◌, [], find};
+ghost use Rattle.std.specs.Prelude.{length, map, nat_le, not, is_ok, IsOk, IfOk};
 ghost use Rattle.std.specs.Prelude.{MatchOption, IfErr, IfSome, IfNone, OnOk, OnErr, IsOkUnless};
 ghost use Rattle.std.specs.List.{list_any};
 ghost use Rattle.std.specs.Option.{option_copied};
@@ -77,12 +77,22 @@ impl<A: Allocator> Areas<A> {
         }
     }
 
-    /// How many areas there are. They stand by rising start, and each ends below the next one's start.
-    pub fn len(&self) -> usize
-        ensures value { result ≡ length self.now.areas }
+    /// What holds of every map: its areas stand by rising start, each ends below the next one's start, and their number
+    /// is one of 64 bits; the span in which areas leave is the least one; the rows are few, since two neighbours that
+    /// fit in one are joined. The call does nothing else.
+    pub fn facts(&self)
         ensures kept { AreKept self.now.areas }
+        ensures few { length self.now.areas < 2 ^ 64 }
         ensures leaving { self.now.leaving ≡ leaving_span self.now.areas }
         ensures rows { 17 * self.now.rows ≤ 2 * length self.now.areas + 17 }
+    {
+        let _ = &self.count;
+        let _ = self.len();
+    }
+
+    /// How many areas there are.
+    pub fn len(&self) -> usize
+        ensures { result ≡ length self.now.areas }
     {
         self.count
     }

@@ -44,17 +44,6 @@ impl<'a, A: Allocator> Iter<'a, A> {
         Iter { row, rows, last }
     }
 
-    /// No areas.
-    pub fn empty() -> Iter<'a, A>
-        ensures { result ≡ [] }
-    {
-        Iter {
-            row: &[],
-            rows: &[],
-            last: None,
-        }
-    }
-
     /// The areas that are left, once more: it takes no search.
     pub fn again(&self) -> Iter<'a, A>
         ensures { result ≡ self.now }

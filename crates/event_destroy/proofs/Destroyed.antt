@@ -2,7 +2,7 @@
 use Rattle.std.proofs.Common.{◌≡◌, ℕ, Bool, true, false, cond, ◌&&◌, ltb, not, eqb, is_none, is_some, Option, Some}
 use Rattle.std.proofs.Common.{None, List, [], map, refl, sym, ◌∙◌, ap, subst, arith, ◌+◌}
 use Rattle.iofd_words.specs.Allowed.{AllowedRanges, allowed_of, without_allowed}
-use Rattle.iofd_words.specs.Answers.{Answers}
+use Rattle.iofd_steps.specs.Answers.{Answers}
 use Rattle.iofd_runs.proofs.KeepsPins.{keeps_pins}
 use Rattle.iofd_runs.proofs.NotRefused.{destroy_passed}
 use Rattle.iofd_runs.proofs.OwnIds.{own_ids-filter}
@@ -18,9 +18,9 @@ use Rattle.user_memory.specs.Memory.{Memory}
 use Rattle.iofd_rows.specs.Pinned.{ArePinned}
 use Rattle.std.specs.List.{filter, list_all}
 use Rattle.std.proofs.lemmas.Bool.Decides.{nat_tests}
-use Rattle.iofd_words.specs.After.{settle, without_areas, changed}
+use Rattle.iofd_steps.specs.After.{settle, without_areas, changed}
 use Rattle.iofd_words.specs.Areas.{areas_of, is_of}
-use Rattle.iofd_words.specs.Checks.{destroy_checks, is_device_object, is_used}
+use Rattle.iofd_refusals.specs.Checks.{destroy_checks, is_device_object, is_used}
 use Rattle.iofd_rows.specs.Ids.{have_own_ids}
 use Rattle.iofd_words.specs.Dirty.{without_tracked}
 use Rattle.iofd_words.specs.FirstTrue.{first_true}

@@ -36,14 +36,14 @@ use Rattle.event_destroy.specs.FileAreas.{areas_of_rows, translated_of}
 use Rattle.dirty_bitmap.specs.Tracking.{Tables}
 use Rattle.iofd_words.specs.Allowed.{AllowedRanges, allowed_of}
 use Rattle.iofd_words.specs.Dirty.{TrackedTable}
-use Rattle.iofd_words.specs.Answers.{Answers}
+use Rattle.iofd_steps.specs.Answers.{Answers}
 use Rattle.std.specs.List.{find, filter, list_all, list_any}
 use Rattle.std.proofs.lemmas.Bool.{eqb-true}
 use Rattle.std.proofs.lemmas.Bool.Decides.{nat_tests}
 use Rattle.std.proofs.lemmas.List.Folds.{list_any-append}
-use Rattle.iofd_words.specs.After.{settle, without_areas, changed}
+use Rattle.iofd_steps.specs.After.{settle, without_areas, changed}
 use Rattle.iofd_words.specs.Areas.{areas_of}
-use Rattle.iofd_words.specs.Checks.{close_checks}
+use Rattle.iofd_refusals.specs.Checks.{close_checks}
 use Rattle.iofd_words.specs.Files as files
 use Rattle.iofd_words.specs.FirstTrue.{first_true}
 use Rattle.iofd_words.specs.Objects.{has_hwpt, is_access, is_bound_as, is_bound_device, objects_of}

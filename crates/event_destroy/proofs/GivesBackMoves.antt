@@ -7,9 +7,9 @@ use Rattle.iofd_rows.proofs.Each.{IsIn}
 use Rattle.iofd_runs.proofs.OwnIds.{keeps_own_ids}
 use Rattle.iofd_runs.proofs.SameTables.{same_tables}
 use Rattle.iofd_runs.proofs.StillTabled.{MakesNone, none_after}
-use Rattle.iofd_words.specs.After.{changed}
-use Rattle.iofd_words.specs.Answers.{Answers}
-use Rattle.iofd_words.specs.Checks.{refusal}
+use Rattle.iofd_steps.specs.After.{changed}
+use Rattle.iofd_steps.specs.Answers.{Answers}
+use Rattle.iofd_refusals.specs.Checks.{refusal}
 use Rattle.iofd_words.specs.Tables.{MovesTables, is_orphan, may_go, missing_tables, tables_after, with_tables}
 use Rattle.iofd_words.specs.World.{World}
 use Rattle.iofd_words.specs.declared.event.Event.{Event}

@@ -4,7 +4,7 @@ ghost use Rattle.std.specs.Prelude.{◌≡◌, ◌≤◌, ◌-◌, ℕ, not, ◌
 ghost use Rattle.std.specs.Prelude.{[], IfOk, OnErr, OnOk};
 ghost use Rattle.std.specs.Prelude.{IsTrue, vec_capacity, vec_len};
 ghost use Rattle.std.specs.List.{list_any};
-ghost use Rattle.iofd_words.specs.Checks.{close_checks};
+ghost use Rattle.iofd_refusals.specs.Checks.{close_checks};
 ghost use Rattle.iofd_words.specs.FirstTrue.{first_true};
 ghost use Rattle.iofd_words.specs.Objects.{objects_of};
 ghost use Rattle.iofd_words.specs.declared.event.Event.TheVariants as event;
@@ -30,7 +30,7 @@ use std::alloc::Allocator;
 use user_memory::UserMemory;
 
 /// Why it is refused, by the first row of the definitions that holds. None where nothing refuses it.
-#[tactic(auto, unfolding(iofd_words::specs::Checks::close_checks))]
+#[tactic(auto, unfolding(iofd_refusals::specs::Checks::close_checks))]
 pub fn refusal<A: Allocator>(state: &State<A>, file: FileNo) -> Option<Cause>
     ensures { result ≡ first_true (close_checks (seen state.now) file) }
 {
@@ -109,8 +109,8 @@ fn frames_of<A: Allocator>(state: &State<A>, file: FileNo) -> u64
     ensures { IfAllStand state.now.pool state.now.page_tables.tables (λ frames leads.
         result ≡ length (rows_of_file frames file state.now.page_tables.tables)) }
 {
-    // Its clause says that the pool has few frames, so that the sum fits.
-    let _ = state.pool.len();
+    // It has so few frames that the sum fits.
+    state.pool.facts();
     let mut count = 0;
     for hwpt in state.page_tables.as_slice() {
         let object = hwpt.object();

@@ -1,7 +1,7 @@
 //! Destroy: an object of a file goes.
 
 ghost use Rattle.std.specs.Prelude.{◌≡◌, ℕ, Option, Some, [], IfOk, IsTrue, OnErr};
-ghost use Rattle.iofd_words.specs.Checks.{destroy_checks, is_device_object, is_used};
+ghost use Rattle.iofd_refusals.specs.Checks.{destroy_checks, is_device_object, is_used};
 ghost use Rattle.iofd_words.specs.FirstTrue.{first_true};
 ghost use Rattle.iofd_words.specs.declared.event.Event.TheVariants as event;
 ghost use Rattle.iofd_words.specs.declared.numbers.FrameNo.{FrameNo};
@@ -16,7 +16,7 @@ use server_state::{State, lookups, release};
 use std::alloc::Allocator;
 
 /// Why it is refused, by the first row of the definitions that holds. None where nothing refuses it.
-#[tactic(auto, unfolding(iofd_words::specs::Checks::destroy_checks))]
+#[tactic(auto, unfolding(iofd_refusals::specs::Checks::destroy_checks))]
 pub fn refusal<A: Allocator>(state: &State<A>, file: FileNo, id: ObjId) -> Option<Cause>
     requires { IsKnown state.now }
     ensures { result ≡ first_true (destroy_checks (seen state.now) file id) }

@@ -8,7 +8,7 @@ use Rattle.server_state.specs.Choice.{IsLooked, is_denial, is_fault}
 use Rattle.std.specs.List.{find, list_all, list_any}
 use Rattle.iofd_words.specs.FirstTrue.{first_true}
 use Rattle.iofd_words.specs.Frames.{bytes_at}
-use Rattle.iofd_words.specs.Look.{answers_in, cached_answers, lawful_answers, query_checks, read_answer}
+use Rattle.iofd_steps.specs.Look.{answers_in, cached_answers, lawful_answers, query_checks, read_answer}
 use Rattle.iofd_words.specs.Pages.{offset_of}
 use Rattle.iofd_words.specs.Policy.{Outcome, outcomes, Passes, Denied, is_pass_at}
 use Rattle.iofd_words.specs.Tables.{is_orphan}

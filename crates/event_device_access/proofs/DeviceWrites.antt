@@ -11,7 +11,7 @@ use Rattle.std.proofs.lemmas.Bool.Decides.{nat_tests}
 use Rattle.frame_memory.specs.Pool.{FramePool, bytes_of, written}
 use Rattle.page_table_set.specs.PageTables.{AllStand, Hwpt}
 use Rattle.iofd_rows.proofs.Bools.{and_true, both_true}
-use Rattle.iofd_words.specs.Answers.{write_reply}
+use Rattle.iofd_steps.specs.Answers.{write_reply}
 use Rattle.iofd_words.specs.Areas.{area_at, areas_of}
 use Rattle.iofd_words.specs.Attachments.{attachment_of, ioas_of_attachment}
 use Rattle.iofd_words.specs.DeviceSet.{has_device}

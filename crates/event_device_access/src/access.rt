@@ -4,7 +4,7 @@ ghost use Rattle.std.specs.Prelude.{◌≡◌, ◌-◌, ◌/◌, ◌^◌, ◌∷
 ghost use Rattle.std.specs.List.{list_any};
 ghost use Rattle.std.specs.Option.{option_copied, option_map_or};
 ghost use Rattle.iofd_words.specs.Areas.{area_at};
-ghost use Rattle.iofd_words.specs.Checks.{access_checks, is_interrupt};
+ghost use Rattle.iofd_refusals.specs.Checks.{access_checks, is_interrupt};
 ghost use Rattle.iofd_words.specs.Files as files;
 ghost use Rattle.iofd_words.specs.FirstTrue.{first_true};
 ghost use Rattle.iofd_words.specs.Pages.{crosses};

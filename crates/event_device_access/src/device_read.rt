@@ -3,7 +3,7 @@
 ghost use Rattle.std.specs.Prelude.{◌≡◌, ℕ, IsTrue, List, None};
 ghost use Rattle.std.specs.List.{list_any};
 ghost use Rattle.iofd_words.specs.FirstTrue.{first_true};
-ghost use Rattle.iofd_words.specs.Look.{lawful_answers, query_checks};
+ghost use Rattle.iofd_steps.specs.Look.{lawful_answers, query_checks};
 ghost use Rattle.iofd_words.specs.Policy.{access_outcomes, fault_of, is_pass_at};
 ghost use Rattle.iofd_words.specs.View.{view};
 ghost use Rattle.iofd_words.specs.World.{World};

@@ -4,7 +4,7 @@ ghost use Rattle.std.specs.Prelude.{◌≡◌, ◌/◌, ℕ, IfOk, IsTrue, List,
 ghost use Rattle.std.specs.Option.{option_map_or};
 ghost use Rattle.iofd_words.specs.Attachments.{attachment_of};
 ghost use Rattle.iofd_words.specs.Files as files;
-ghost use Rattle.iofd_words.specs.Checks.{device_write_checks};
+ghost use Rattle.iofd_refusals.specs.Checks.{device_write_checks};
 ghost use Rattle.iofd_words.specs.Dirty.{TrackedTable, marked_by};
 ghost use Rattle.iofd_words.specs.FirstTrue.{first_true};
 ghost use Rattle.iofd_words.specs.Policy as policy;
@@ -23,7 +23,7 @@ use server_state::State;
 use std::alloc::Allocator;
 
 /// Why it is refused, by the first row of the definitions that holds. None where nothing refuses it.
-#[tactic(auto, unfolding(iofd_words::specs::Checks::device_write_checks))]
+#[tactic(auto, unfolding(iofd_refusals::specs::Checks::device_write_checks))]
 pub fn refusal<A: Allocator>(
     state: &State<A>,
     device: DeviceNo,

@@ -1,7 +1,7 @@
 //! DIRTY_ENABLE: a page table's written pages are tracked, or no more.
 
 ghost use Rattle.std.specs.Prelude.{◌≡◌, ℕ, IfOk, IsTrue, OnErr};
-ghost use Rattle.iofd_words.specs.Checks.{dirty_enable_checks};
+ghost use Rattle.iofd_refusals.specs.Checks.{dirty_enable_checks};
 ghost use Rattle.iofd_words.specs.FirstTrue.{first_true};
 ghost use Rattle.iofd_words.specs.declared.event.Event.TheVariants as event;
 ghost use Rattle.server_state.specs.Seen.{seen};
@@ -15,7 +15,7 @@ use std::alloc::Allocator;
 /// Why it is refused, by the first row of the definitions that holds. None where nothing refuses it.
 ///
 /// Refused by 11 (ENOENT, `Cause::Id`) where the file isn't open or has no hardware page table of this id.
-#[tactic(auto, unfolding(iofd_words::specs::Checks::dirty_enable_checks))]
+#[tactic(auto, unfolding(iofd_refusals::specs::Checks::dirty_enable_checks))]
 pub fn refusal<A: Allocator>(state: &State<A>, file: FileNo, hwpt: ObjId) -> Option<Cause>
     requires { IsKnown state.now }
     ensures { result ≡ first_true (dirty_enable_checks (seen state.now) file hwpt) }

@@ -1,10 +1,10 @@
 //! DIRTY_REPORT: which pages of a span were written, and whether their marks are taken away.
 
 ghost use Rattle.std.specs.Prelude.{◌≡◌, ◌/◌, ◌||◌, ◌==◌, ◌&&◌, ℕ, List, None, nat_lt, not};
-ghost use Rattle.iofd_words.specs.Checks.{dirty_checks};
+ghost use Rattle.iofd_refusals.specs.Checks.{dirty_checks};
 ghost use Rattle.iofd_words.specs.Dirty.{reported_span};
 ghost use Rattle.iofd_words.specs.FirstTrue.{first_true};
-ghost use Rattle.iofd_words.specs.Look.{lawful_answers, query_checks};
+ghost use Rattle.iofd_steps.specs.Look.{lawful_answers, query_checks};
 ghost use Rattle.iofd_words.specs.Objects.{is_hwpt_under};
 ghost use Rattle.iofd_words.specs.Pages.{is_above_sum, is_whole};
 ghost use Rattle.iofd_words.specs.View.{view};
@@ -33,7 +33,7 @@ const REPORT_PAGES: u64 = 256;
 /// (EOVERFLOW, `Cause::Sum`) where the span ends above 2^64, then by 20 (EINVAL, `Cause::Align`) where it has no whole
 /// pages alone, and then by 30 (EINVAL, `Cause::Tracking`) where the page table isn't tracked or the span has more than
 /// 256 pages.
-#[tactic(auto, unfolding(iofd_words::specs::Checks::dirty_checks))]
+#[tactic(auto, unfolding(iofd_refusals::specs::Checks::dirty_checks))]
 pub fn refusal<A: Allocator>(state: &State<A>, file: FileNo, request: DirtyRequest) -> Option<Cause>
     requires { IsKnown state.now }
     ensures { result ≡ first_true (dirty_checks (seen state.now) file request) }

@@ -1,6 +1,6 @@
 -- Where nothing refuses it, a file takes one more address space.
 use Rattle.std.proofs.Common.{◌≡◌, None}
-use Rattle.iofd_words.specs.Checks.{ioas_alloc_checks}
+use Rattle.iofd_refusals.specs.Checks.{ioas_alloc_checks}
 use Rattle.iofd_words.specs.FirstTrue.{first_true}
 use Rattle.iofd_words.specs.View.{view}
 use Rattle.iofd_words.specs.World.{World}

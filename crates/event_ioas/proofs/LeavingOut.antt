@@ -5,7 +5,7 @@ use Rattle.std.specs.Prelude.{◌^◌, nat_lt}
 use Rattle.iofd_rows.proofs.Unusable.{by_rows}
 use Rattle.iofd_rows.specs.Reached.{ends_in, keeps_of}
 use Rattle.iofd_words.specs.Bounds.{Bounds}
-use Rattle.iofd_words.specs.Look.{AreUsableRanges}
+use Rattle.iofd_steps.specs.Look.{AreUsableRanges}
 use Rattle.iofd_words.specs.Ranges.{AreMerged, in_spans}
 use Rattle.iofd_words.specs.View.{View}
 use Rattle.iofd_words.specs.declared.numbers.FileNo.{FileNo}

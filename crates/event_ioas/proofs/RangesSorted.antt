@@ -10,7 +10,7 @@ use Rattle.iofd_rows.proofs.ListTests.{alike, or_right}
 use Rattle.iofd_rows.proofs.PageCounts.{count-cons}
 use Rattle.iofd_words.specs.Allowed.{are_ranges}
 use Rattle.iofd_words.specs.Bounds.{Bounds}
-use Rattle.iofd_words.specs.Checks.{unusable_in}
+use Rattle.iofd_refusals.specs.Checks.{unusable_in}
 use Rattle.iofd_words.specs.Ranges.{in_spans, meets_some}
 use Rattle.iofd_words.specs.Span.{holds, meets}
 use Rattle.iofd_words.specs.View.{View}

@@ -3,7 +3,7 @@ use Rattle.std.specs.Prelude.{Bool, not, List, [], ◌∷◌}
 use Rattle.std.specs.List.{list_any}
 use Rattle.iofd_words.specs.Allowed.{are_ranges}
 use Rattle.iofd_words.specs.Bounds.{Bounds}
-use Rattle.iofd_words.specs.Checks.{unusable_in}
+use Rattle.iofd_refusals.specs.Checks.{unusable_in}
 use Rattle.iofd_words.specs.Ranges.{meets_some}
 use Rattle.iofd_words.specs.View.{View}
 use Rattle.iofd_words.specs.declared.numbers.FileNo.{FileNo}

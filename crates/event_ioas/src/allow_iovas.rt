@@ -4,7 +4,7 @@ ghost use Rattle.std.specs.Prelude.{◌≡◌, ◌<◌, true, false, ℕ, IfOk, 
 ghost use Rattle.std.specs.Prelude.{OnErr, length, nat_lt};
 ghost use Rattle.std.specs.List.Sorted.{IsNonDecreasingBy};
 ghost use Rattle.iofd_words.specs.Allowed.{are_ranges};
-ghost use Rattle.iofd_words.specs.Checks.{allow_iovas_checks};
+ghost use Rattle.iofd_refusals.specs.Checks.{allow_iovas_checks};
 ghost use Rattle.iofd_words.specs.FirstTrue.{first_true};
 ghost use Rattle.iofd_words.specs.Ranges.{meets_some};
 ghost use Rattle.iofd_words.specs.declared.event.Event.TheVariants as event;
@@ -21,7 +21,7 @@ use std::alloc::Allocator;
 
 /// Why it is refused, by the first row of the definitions that holds. None where nothing refuses it. The memory in
 /// which it sorts the ranges is given back.
-#[tactic(auto, unfolding(iofd_words::specs::Checks::allow_iovas_checks))]
+#[tactic(auto, unfolding(iofd_refusals::specs::Checks::allow_iovas_checks))]
 pub fn refusal<A: Allocator + Copy>(
     state: &State<A>,
     file: FileNo,

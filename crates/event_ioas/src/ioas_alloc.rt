@@ -1,7 +1,7 @@
 //! IoasAlloc: a file gets a new address space.
 
 ghost use Rattle.std.specs.Prelude.{◌≡◌, ℕ, IfOk, OnErr};
-ghost use Rattle.iofd_words.specs.Checks.{ioas_alloc_checks};
+ghost use Rattle.iofd_refusals.specs.Checks.{ioas_alloc_checks};
 ghost use Rattle.iofd_words.specs.FirstTrue.{first_true};
 ghost use Rattle.iofd_words.specs.declared.event.Event.TheVariants as event;
 ghost use Rattle.server_state.specs.Seen.{seen};
@@ -13,7 +13,7 @@ use server_state::{Held, State};
 use std::alloc::Allocator;
 
 /// Why it is refused, by the first row of the definitions that holds. None where nothing refuses it.
-#[tactic(auto, using(server_state::proofs::Objects::fullness), unfolding(iofd_words::specs::Checks::ioas_alloc_checks))]
+#[tactic(auto, using(server_state::proofs::Objects::fullness), unfolding(iofd_refusals::specs::Checks::ioas_alloc_checks))]
 pub fn refusal<A: Allocator>(state: &State<A>, file: FileNo) -> Option<Cause>
     ensures { result ≡ first_true (ioas_alloc_checks (seen state.now) file) }
 {

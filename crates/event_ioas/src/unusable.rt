@@ -5,7 +5,7 @@ ghost use Rattle.std.specs.Prelude.{◌≡◌, ◌<◌, ◌&&◌, true};
 ghost use Rattle.std.specs.List.{list_any};
 ghost use Rattle.iofd_rows.specs.Reached as reached;
 ghost use Rattle.iofd_words.specs.Allowed.{are_ranges};
-ghost use Rattle.iofd_words.specs.Checks.{unusable_in};
+ghost use Rattle.iofd_refusals.specs.Checks.{unusable_in};
 ghost use Rattle.iofd_words.specs.Files.{device_of};
 ghost use Rattle.iofd_words.specs.Ranges.{meets_some};
 ghost use Rattle.iofd_words.specs.Span.{meets};

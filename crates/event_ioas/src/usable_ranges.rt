@@ -6,7 +6,7 @@ ghost use Rattle.std.specs.List.{list_any};
 ghost use Rattle.iofd_rows.specs.Reached as reached;
 ghost use Rattle.iofd_words.specs.Files.{device_of};
 ghost use Rattle.iofd_words.specs.FirstTrue.{first_true};
-ghost use Rattle.iofd_words.specs.Look.{AreUsableRanges, ranges_checks};
+ghost use Rattle.iofd_steps.specs.Look.{AreUsableRanges, ranges_checks};
 ghost use Rattle.iofd_words.specs.Ranges.{AreMerged, in_spans};
 ghost use Rattle.iofd_words.specs.Span.{holds};
 ghost use Rattle.iofd_words.specs.Usable.{reserved_of};

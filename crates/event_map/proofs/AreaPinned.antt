@@ -9,7 +9,7 @@ use Rattle.page_table_set.specs.PageTables.{AllStand}
 use Rattle.iofd_rows.proofs.Bools.{and_true, clash}
 use Rattle.iofd_rows.proofs.Each.{IsIn, in_filter, in_found}
 use Rattle.iofd_rows.proofs.Named.{file_is, id_is}
-use Rattle.iofd_words.specs.After.{mapped_area, settle}
+use Rattle.iofd_steps.specs.After.{mapped_area, settle}
 use Rattle.iofd_words.specs.Areas.{areas_meet, areas_of, is_of}
 use Rattle.iofd_words.specs.Areas as world
 use Rattle.iofd_words.specs.Objects.{has_hwpt}

@@ -7,10 +7,10 @@ use Rattle.area_map.specs.Insertion.{insert_refusal}
 use Rattle.std.specs.List.{count_by, list_any}
 use Rattle.iofd_rows.proofs.Bools.{both_false, clash, not_false}
 use Rattle.iofd_runs.specs.Tabled.{AreTabled}
-use Rattle.iofd_words.specs.Answers.{IsMappedAt}
+use Rattle.iofd_steps.specs.Answers.{IsMappedAt}
 use Rattle.iofd_words.specs.Bounds.{Bounds}
-use Rattle.iofd_words.specs.Checks.{choices, has_choice, may_choose, taken_spans}
-use Rattle.iofd_words.specs.After.{mapped_area}
+use Rattle.iofd_refusals.specs.Checks.{choices, has_choice, may_choose, taken_spans}
+use Rattle.iofd_steps.specs.After.{mapped_area}
 use Rattle.iofd_words.specs.Areas.{is_of}
 use Rattle.iofd_words.specs.Areas as world
 use Rattle.iofd_words.specs.Files.{is_open, user_of}

@@ -12,10 +12,10 @@ use Rattle.page_table_set.specs.PageTables.{AllStand, Hwpt, IfAllStand, KeepsOth
 use Rattle.iofd_rows.proofs.Bools.{and_true, both_true}
 use Rattle.iofd_rows.proofs.Each.{IsIn, in_filter, of_any, of_each}
 use Rattle.iofd_runs.proofs.StillTabled.{none_given}
-use Rattle.iofd_words.specs.After.{mapped_area, settle}
+use Rattle.iofd_steps.specs.After.{mapped_area, settle}
 use Rattle.iofd_words.specs.Areas as world
 use Rattle.iofd_words.specs.Areas.{areas_meet, areas_of}
-use Rattle.iofd_words.specs.Checks.{tables_to_map}
+use Rattle.iofd_refusals.specs.Checks.{tables_to_map}
 use Rattle.iofd_words.specs.Frames.{frame_at, is_free}
 use Rattle.iofd_words.specs.Objects.{has_hwpt, is_hwpt, is_hwpt_over}
 use Rattle.iofd_words.specs.Tables.{MissingTable, MovesTables, are_different, in_frames, is_orphan, may_go, missing_tables}

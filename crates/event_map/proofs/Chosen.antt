@@ -12,7 +12,7 @@ use Rattle.area_map_rows.specs.Areas.{AreApart, AreApartFrom, HasNoneFree, IsFir
 use Rattle.iofd_runs.specs.Fits.{begins_at_page, is_of_pages}
 use Rattle.iofd_words.specs.Areas.{areas_meet}
 use Rattle.iofd_words.specs.Bounds.{Bounds}
-use Rattle.iofd_words.specs.Checks.{choices, has_choice, may_choose, taken_spans, unusable_in}
+use Rattle.iofd_refusals.specs.Checks.{choices, has_choice, may_choose, taken_spans, unusable_in}
 use Rattle.iofd_words.specs.Fits.{whole_from}
 use Rattle.iofd_words.specs.Pages.{is_above_sum}
 use Rattle.iofd_words.specs.Ranges as ranges

@@ -8,9 +8,9 @@ use Rattle.page_table_set.specs.PageTables.{IfAllStand}
 use Rattle.iofd_runs.proofs.CopySource.{IsSource, copy_source, source_area}
 use Rattle.user_memory_rows.proofs.AccessStays.{PinsNext, pins_next}
 use Rattle.iofd_runs.proofs.MappedAt.{copy_lies_at}
-use Rattle.iofd_words.specs.After.{changed, copy_changes, mapped_area}
-use Rattle.iofd_words.specs.Answers.{IsMappedAt, Answers}
-use Rattle.iofd_words.specs.Checks.{copy_checks, tables_to_map, unusable_in}
+use Rattle.iofd_steps.specs.After.{changed, copy_changes, mapped_area}
+use Rattle.iofd_steps.specs.Answers.{IsMappedAt, Answers}
+use Rattle.iofd_refusals.specs.Checks.{copy_checks, tables_to_map, unusable_in}
 use Rattle.iofd_words.specs.Copies.{placed_as}
 use Rattle.iofd_words.specs.FirstTrue.{first_true}
 use Rattle.iofd_words.specs.Objects.{has_hwpt}

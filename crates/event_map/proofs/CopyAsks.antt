@@ -2,8 +2,8 @@
 use Rattle.std.proofs.Common.{◌≡◌, ℕ, Bool, true, false, ◌&&◌, ◌||◌, not, eqb, is_none, Option, Some, None, List, []}
 use Rattle.std.proofs.Common.{◌∷◌, ◌++◌, length, refl, sym, ◌∙◌, ap}
 use Rattle.std.specs.List.{filter, list_any}
-use Rattle.iofd_words.specs.Checks.{copy_checks, is_source_writable, lacks_copied_page, lacks_mapped_frames}
-use Rattle.iofd_words.specs.Checks.{newly_copied, passes_limit, passes_limit_copied, source_of}
+use Rattle.iofd_refusals.specs.Checks.{copy_checks, is_source_writable, lacks_copied_page, lacks_mapped_frames}
+use Rattle.iofd_refusals.specs.Checks.{newly_copied, passes_limit, passes_limit_copied, source_of}
 use Rattle.iofd_words.specs.Copies.{is_writable, placed_as}
 use Rattle.iofd_words.specs.Files.{user_of}
 use Rattle.iofd_words.specs.FirstTrue.{first_true}

@@ -10,11 +10,11 @@ use Rattle.iofd_runs.proofs.MappedAt.{copy_lies_at}
 use Rattle.iofd_runs.proofs.NotRefused.{CopyPassed, PlacePassed, copy_passed, copy_place}
 use Rattle.iofd_runs.proofs.SharedFew.{shared_few}
 use Rattle.iofd_runs.specs.Owned.{is_of_files_user, is_over_own}
-use Rattle.iofd_words.specs.After.{mapped_area}
-use Rattle.iofd_words.specs.Answers.{IsMappedAt}
+use Rattle.iofd_steps.specs.After.{mapped_area}
+use Rattle.iofd_steps.specs.Answers.{IsMappedAt}
 use Rattle.iofd_words.specs.Bounds.{Bounds}
-use Rattle.iofd_words.specs.Checks.{passes_limit, tables_to_map}
-use Rattle.iofd_words.specs.Checks.{unusable_in}
+use Rattle.iofd_refusals.specs.Checks.{passes_limit, tables_to_map}
+use Rattle.iofd_refusals.specs.Checks.{unusable_in}
 use Rattle.iofd_words.specs.Copies.{placed_as, source_in}
 use Rattle.iofd_words.specs.Files.{is_user, user_of}
 use Rattle.iofd_words.specs.Objects.{has_hwpt}

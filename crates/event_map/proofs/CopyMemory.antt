@@ -5,8 +5,8 @@ use Rattle.std.specs.List.{find}
 use Rattle.frame_memory.specs.Pool.{FramePool}
 use Rattle.iofd_runs.proofs.CopySource.{IsSource, copied_size}
 use Rattle.user_memory_rows.proofs.AccessStays.{PinsNext}
-use Rattle.iofd_words.specs.After.{copy_changes, mapped_area, settle}
-use Rattle.iofd_words.specs.Checks.{copy_checks}
+use Rattle.iofd_steps.specs.After.{copy_changes, mapped_area, settle}
+use Rattle.iofd_refusals.specs.Checks.{copy_checks}
 use Rattle.iofd_words.specs.Copies.{placed_as}
 use Rattle.iofd_words.specs.FirstTrue.{first_true}
 use Rattle.iofd_words.specs.Objects.{has_hwpt}

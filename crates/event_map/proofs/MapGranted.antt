@@ -5,10 +5,10 @@ use Rattle.std.specs.Prelude.{if◌then◌else◌}
 use Rattle.std.proofs.lemmas.Bool.Decides.{nat_tests}
 use Rattle.frame_memory.specs.Pool.{FramePool, free_count}
 use Rattle.iofd_runs.proofs.MappedAt.{lies_at}
-use Rattle.iofd_words.specs.After.{mapped_area, memory_object}
-use Rattle.iofd_words.specs.Answers.{IsMappedAt}
+use Rattle.iofd_steps.specs.After.{mapped_area, memory_object}
+use Rattle.iofd_steps.specs.Answers.{IsMappedAt}
 use Rattle.iofd_words.specs.Bounds.{Bounds}
-use Rattle.iofd_words.specs.Checks.{tables_to_map, unusable_in}
+use Rattle.iofd_refusals.specs.Checks.{tables_to_map, unusable_in}
 use Rattle.iofd_words.specs.Files.{user_of}
 use Rattle.iofd_words.specs.Objects.{has_hwpt}
 use Rattle.iofd_words.specs.Ranges.{meets_some}

@@ -11,7 +11,7 @@ use Rattle.iofd_rows.proofs.Each.{IsIn, of_each}
 use Rattle.iofd_rows.proofs.ListTests.{any_of_all, or_left}
 use Rattle.iofd_rows.specs.Pinned.{has_object}
 use Rattle.user_memory_rows.proofs.AccessStays.{PinsNext}
-use Rattle.iofd_words.specs.After.{mapped_area, memory_object, settle}
+use Rattle.iofd_steps.specs.After.{mapped_area, memory_object, settle}
 use Rattle.iofd_words.specs.Areas as world
 use Rattle.iofd_words.specs.Frames.{frame_at}
 use Rattle.iofd_words.specs.Objects.{has_hwpt}

@@ -1,7 +1,7 @@
 -- The rows of a MAP's refusals.
 use Rattle.std.proofs.Common.{◌≡◌, ◌≢◌, ℕ, true, false, ◌&&◌, ◌||◌, not, eqb, Some, [], ◌∷◌, ◌++◌, refl, arith}
 use Rattle.std.proofs.lemmas.Bool.Decides.{nat_tests}
-use Rattle.iofd_words.specs.Checks.{lacks_mapped_frames, lacks_mapped_page, map_checks, passes_limit_mapped}
+use Rattle.iofd_refusals.specs.Checks.{lacks_mapped_frames, lacks_mapped_page, map_checks, passes_limit_mapped}
 use Rattle.iofd_words.specs.FirstTrue.{first_true}
 use Rattle.iofd_words.specs.Objects.{has_ioas}
 use Rattle.iofd_words.specs.Pages.{is_above_sum, is_above_user, is_whole}

@@ -1,11 +1,11 @@
 -- The world after a MAP is shown.
 use Rattle.std.proofs.Common.{refl, ◌≡◌, ℕ, Bool, Option, Some, None, List, [], ◌∷◌, ◌++◌, length, sym, ◌+◌, ◌≤◌, subst}
-use Rattle.iofd_words.specs.Answers.{Answers, IsMappedAt}
+use Rattle.iofd_steps.specs.Answers.{Answers, IsMappedAt}
 use Rattle.area_map_rows.specs.Areas as own
 use Rattle.user_memory_rows.proofs.AccessStays.{PinsNext, pins_next}
 use Rattle.iofd_runs.proofs.MappedAt.{lies_at}
-use Rattle.iofd_words.specs.Checks.{map_checks, tables_to_map}
-use Rattle.iofd_words.specs.After.{changed, map_changes}
+use Rattle.iofd_refusals.specs.Checks.{map_checks, tables_to_map}
+use Rattle.iofd_steps.specs.After.{changed, map_changes}
 use Rattle.iofd_words.specs.Files.{user_of}
 use Rattle.iofd_words.specs.Rights.{is_fixed}
 use Rattle.iofd_words.specs.FirstTrue.{first_true}

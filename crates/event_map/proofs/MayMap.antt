@@ -5,8 +5,8 @@ use Rattle.frame_memory.specs.Pool.{FramePool, free_count}
 use Rattle.page_table_set.specs.OverSpans.{hwpts_over, is_over}
 use Rattle.page_table_set.specs.PageTables.{Hwpt}
 use Rattle.iofd_rows.proofs.Bools.{or_false}
-use Rattle.iofd_words.specs.After.{mapped_area}
-use Rattle.iofd_words.specs.Checks.{tables_to_map, unusable_in}
+use Rattle.iofd_steps.specs.After.{mapped_area}
+use Rattle.iofd_refusals.specs.Checks.{tables_to_map, unusable_in}
 use Rattle.iofd_words.specs.Objects.{has_hwpt}
 use Rattle.iofd_words.specs.Ranges.{meets_some}
 use Rattle.iofd_words.specs.Span.{is_whole_pages, size_of}

@@ -8,8 +8,8 @@ use Rattle.std.proofs.lemmas.Bool.Decides.{nat_tests}
 use Rattle.std.proofs.lemmas.List.Folds.{list_any-append}
 use Rattle.iofd_rows.proofs.Bools.{both_true, clash, or_false}
 use Rattle.iofd_words.specs.Bounds.{Bounds}
-use Rattle.iofd_words.specs.Checks.{choices, is_outside_usable, lacks_mapped_frames, least, mapped_start, may_choose}
-use Rattle.iofd_words.specs.Checks.{tables_lacked, tables_to_map, taken_spans, unusable_in}
+use Rattle.iofd_refusals.specs.Checks.{choices, is_outside_usable, lacks_mapped_frames, least, mapped_start, may_choose}
+use Rattle.iofd_refusals.specs.Checks.{tables_lacked, tables_to_map, taken_spans, unusable_in}
 use Rattle.iofd_words.specs.Objects.{has_hwpt, has_ioas, is_hwpt_over}
 use Rattle.iofd_words.specs.Pages.{is_above_sum, is_whole}
 use Rattle.iofd_words.specs.Ranges.{meets_some}

@@ -3,8 +3,8 @@ use Rattle.std.specs.Prelude.{◌≡◌, ℕ, ◌≤◌, ◌==◌, ◌&&◌, ◌
 use Rattle.area_map_rows.specs.Areas.{IsFirstFree}
 use Rattle.iofd_words.specs.Areas.{has_no_room}
 use Rattle.iofd_words.specs.Bounds.{Bounds}
-use Rattle.iofd_words.specs.Checks.{choices, has_choice, is_outside_usable, lacks_choice, may_choose, overlaps}
-use Rattle.iofd_words.specs.Checks.{taken_spans, unusable_in}
+use Rattle.iofd_refusals.specs.Checks.{choices, has_choice, is_outside_usable, lacks_choice, may_choose, overlaps}
+use Rattle.iofd_refusals.specs.Checks.{taken_spans, unusable_in}
 use Rattle.iofd_words.specs.Objects.{has_ioas}
 use Rattle.iofd_words.specs.Pages.{is_above_sum, is_whole}
 use Rattle.iofd_words.specs.Ranges.{meets_some}

@@ -3,7 +3,7 @@
 ghost use Rattle.std.specs.Prelude.{◌≡◌, ◌==◌, ◌+◌, ◌≤◌, ◌^◌, ℕ, true, false, MatchOption};
 ghost use Rattle.area_map_rows.specs.Areas.{AreKept, HasNoneFree};
 ghost use Rattle.iofd_words.specs.Allowed.{allowed_of};
-ghost use Rattle.iofd_words.specs.Checks.{has_choice, may_choose};
+ghost use Rattle.iofd_refusals.specs.Checks.{has_choice, may_choose};
 ghost use Rattle.iofd_words.specs.Fits.{whole_from};
 ghost use Rattle.iofd_words.specs.Span.{span_from};
 ghost use Rattle.iofd_words.specs.Usable.{allowed_spans};

@@ -3,8 +3,8 @@
 ghost use Rattle.std.specs.Prelude.{ℕ, ◌≡◌, ◌==◌, ◌&&◌, not, true, false, IfOk, OnErr, Option, Some};
 ghost use Rattle.std.specs.Prelude.{[], ◌∷◌, ◌++◌};
 ghost use Rattle.std.specs.Option.{option_copied};
-ghost use Rattle.iofd_words.specs.Checks.{copy_checks, is_source_writable, lacks_copied_page, lacks_mapped_frames};
-ghost use Rattle.iofd_words.specs.Checks.{passes_limit_copied, source_of};
+ghost use Rattle.iofd_refusals.specs.Checks.{copy_checks, is_source_writable, lacks_copied_page, lacks_mapped_frames};
+ghost use Rattle.iofd_refusals.specs.Checks.{passes_limit_copied, source_of};
 ghost use Rattle.iofd_words.specs.Copies.{placed_as, source_in};
 ghost use Rattle.iofd_words.specs.FirstTrue.{first_true};
 ghost use Rattle.iofd_words.specs.Objects.{has_ioas};
@@ -31,7 +31,7 @@ use server_state::{Held, State, accounts, area_changes, lookups};
 use std::alloc::Allocator;
 
 /// Why it is refused, by the first row of the definitions that holds. None where nothing refuses it.
-#[tactic(auto, unfolding(iofd_words::specs::Checks::copy_checks))]
+#[tactic(auto, unfolding(iofd_refusals::specs::Checks::copy_checks))]
 pub fn refusal<A: Allocator>(state: &State<A>, file: FileNo, request: CopyRequest) -> Option<Cause>
     requires { IsKnown state.now }
     ensures { result ≡ first_true (copy_checks (seen state.now) file request) }
@@ -104,8 +104,7 @@ pub fn commit<A: Allocator + Copy>(
     state.memory.share(&mut state.pool, user, number, pinned)?;
     mapping::map_area(state, &area, pinned, taken);
     area_changes::insert(&mut state.objects, file, request.dst_ioas, area);
-    // Its clause says that the pool has bytes for each frame.
-    let _ = state.pool.len();
+    state.pool.facts();
     Ok(Reply::Iova(Iova(span.first())))
 }
 
@@ -138,8 +137,8 @@ fn source_in<A: Allocator>(areas: &Areas<A>, request: CopyRequest) -> Option<&Ar
     let Some(span) = Span::of_length(request.src_iova.0, request.length) else {
         return None;
     };
-    // Its clause says that no two areas have an address in common.
-    let _ = areas.len();
+    // No two of them have an address in common.
+    areas.facts();
     let Some(area) = areas.exact(span) else {
         return None;
     };

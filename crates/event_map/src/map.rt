@@ -1,8 +1,8 @@
 //! MAP: pages of a user's memory at a fixed address, or at one that the server chooses.
 
 ghost use Rattle.std.specs.Prelude.{◌≡◌, ◌&&◌, IfOk, OnErr, Option, [], ◌∷◌, ◌++◌};
-ghost use Rattle.iofd_words.specs.After.{memory_object};
-ghost use Rattle.iofd_words.specs.Checks.{lacks_mapped_frames, lacks_mapped_page, map_checks, passes_limit_mapped};
+ghost use Rattle.iofd_steps.specs.After.{memory_object};
+ghost use Rattle.iofd_refusals.specs.Checks.{lacks_mapped_frames, lacks_mapped_page, map_checks, passes_limit_mapped};
 ghost use Rattle.iofd_words.specs.FirstTrue.{first_true};
 ghost use Rattle.iofd_words.specs.Pages.{is_above_user, is_whole};
 ghost use Rattle.iofd_words.specs.declared.event.Event.TheVariants as event;
@@ -22,7 +22,7 @@ use server_state::{State, accounts, area_changes, lookups};
 use std::alloc::Allocator;
 
 /// Why it is refused, by the first row of the definitions that holds. None where nothing refuses it.
-#[tactic(auto, unfolding(iofd_words::specs::Checks::map_checks))]
+#[tactic(auto, unfolding(iofd_refusals::specs::Checks::map_checks))]
 pub fn refusal<A: Allocator>(state: &State<A>, file: FileNo, request: MapRequest) -> Option<Cause>
     requires { IsKnown state.now }
     ensures { result ≡ first_true (map_checks (seen state.now) file request) }
@@ -89,8 +89,7 @@ pub fn commit<A: Allocator + Copy>(
     state.memory.add(&mut state.pool, object, pinned)?;
     mapping::map_area(state, &area, pinned, taken);
     area_changes::insert(&mut state.objects, file, request.ioas, area);
-    // Its clause says that the pool has bytes for each frame.
-    let _ = state.pool.len();
+    state.pool.facts();
     Ok(Reply::Iova(Iova(span.first())))
 }
 

@@ -27,8 +27,7 @@ pub(crate) fn map_area<A: Allocator>(
         state.old.page_tables.tables state.old.pool state.new.pool taken.old.items taken.new.items) }
 {
     if translated {
-        // Its last address is one of 64 bits.
-        let _ = area.span.last();
+        area.span.facts();
         state.page_tables.map(
             &mut state.pool,
             area.file,

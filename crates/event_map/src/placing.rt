@@ -1,8 +1,8 @@
 //! Where an area comes to lie: at a fixed address, or at one that the server chooses.
 
 ghost use Rattle.std.specs.Prelude.{◌≡◌, ◌==◌, ◌&&◌, ◌||◌, not, true, false, None, MatchOption};
-ghost use Rattle.iofd_words.specs.After.{mapped_area};
-ghost use Rattle.iofd_words.specs.Checks.{has_choice, lacks_mapped_frames, unusable_in};
+ghost use Rattle.iofd_steps.specs.After.{mapped_area};
+ghost use Rattle.iofd_refusals.specs.Checks.{has_choice, lacks_mapped_frames, unusable_in};
 ghost use Rattle.iofd_words.specs.FirstTrue.{first_true};
 ghost use Rattle.iofd_words.specs.Pages.{is_above_sum, is_whole};
 ghost use Rattle.iofd_words.specs.Ranges.{meets_some};

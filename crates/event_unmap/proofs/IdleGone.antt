@@ -38,11 +38,9 @@ use Rattle.iofd_words.specs.declared.rows.ObjectKind.{ObjectKind}
 use Rattle.iofd_words.specs.declared.rows.ObjectKind.TheVariants as kind
 use Rattle.iofd_words.specs.declared.rows.TableFrame.{TableFrame}
 use Rattle.iofd_words.specs.declared.width.Width.{Width}
-use Rattle.iofd_words.specs.Bounds.{Bounds}
-use Rattle.page_table_words.specs.Rows.{MappedPage}
-use Rattle.page_table_set.specs.Idle.{GivesUp, MayShed, Sheds, is_idle_in, is_idle_of}
+use Rattle.page_table_set.specs.Idle.{GivesUp, is_idle_in, is_idle_of}
 use Rattle.page_table_set.specs.OverSpans.{is_over}
-use Rattle.page_table_set.specs.PageTables.{AllStand, Hwpt}
+use Rattle.page_table_set.specs.PageTables.{Hwpt}
 use Rattle.server_state.proofs.GivenBack.{among_is, given_once, kept_are, rising, some_time}
 use Rattle.server_state.proofs.TablesUnreached.{in_list}
 use Rattle.server_state.proofs.UsedTables.{used_table}
@@ -288,28 +286,3 @@ frames_after pool writes frames left given memory before after shown unreached g
     none f some =
         ⊎_elim (λ (there : 0 < tables_in frames f). let no = unreached f there in absurd (omega (arith, no, some)))
         (λ (no : tables_in frames f ≤ 0). omega (arith, no)) (cases_lt 0 (tables_in frames f))
-
--- ---- without areas nothing is idle, and nothing goes
-
-pub nothing_shed : (pool : FramePool) (tables : List Hwpt) (file : FileNo) (ioas : ObjId) (span : Bounds)
-    (frames : List TableFrame) (leads : Object → ℕ → Option MappedPage) → AllStand pool frames leads tables
-    → MayShed file ioas [] span frames leads tables
-    → Sheds pool pool frames leads tables (is_idle_in file ioas [] tables) []
-nothing_shed pool tables file ioas span frames leads stand may =
-    let all = kept_all (is_idle_in file ioas [] tables) frames may.needed in
-    record {
-      stand = rw all stand;
-      gives = rw all (record {
-        went = λ f. omega arith;
-        holds = λ f. omega arith;
-        others = λ f none. refl;
-        count = refl;
-      });
-      rising = λ i j d below within. absurd (omega (arith, within));
-    }
-  where
-    kept_all : {X : Type 0} (p : X → Bool) (xs : List X) → list_any p xs ≡ false → filter (λ x. not (p x)) xs ≡ xs
-    kept_all p [] none = refl
-    kept_all p (x ∷ xs) none =
-        let parts = or_false (p x) (list_any p xs) none in
-        rw parts.0 (ap (λ (l : List _). x ∷ l) (kept_all p xs parts.1))

@@ -2,6 +2,7 @@ pub mod AreasToClear
 pub mod AttachedDevices
 pub mod IdleGone
 pub mod LeavingAreas
+pub mod OwnAreas
 pub mod PagesCleared
 pub mod PinsLeft
 pub mod SpacesCleared

@@ -18,10 +18,10 @@ use Rattle.iofd_rows.proofs.Unusable.{none_of}
 use Rattle.iofd_runs.proofs.NotRefused.{unmap_passed}
 use Rattle.iofd_runs.proofs.StillTabled.{none_after}
 use Rattle.iofd_runs.specs.Fits.{begins_at_page, is_of_pages}
-use Rattle.iofd_words.specs.After.{changed, settle, without_areas}
+use Rattle.iofd_steps.specs.After.{changed, settle, without_areas}
 use Rattle.iofd_words.specs.Areas.{areas_meet, areas_of, is_cut, is_everything, is_of, is_touched, unmapped_span}
 use Rattle.iofd_words.specs.Bounds.{Bounds}
-use Rattle.iofd_words.specs.Checks.{unmap_checks}
+use Rattle.iofd_refusals.specs.Checks.{unmap_checks}
 use Rattle.iofd_words.specs.FirstTrue.{first_true}
 use Rattle.iofd_words.specs.Limits.{first_outside}
 use Rattle.iofd_words.specs.Objects.{has_hwpt, is_hwpt_over}
@@ -153,7 +153,8 @@ module _ {A : Type 0} (at : ℕ) (w : World) (s : State A) (file : FileNo) (requ
           search (few, arith, nat_tests) in
           rw (low, true_right (leb (2 ^ bits_of h.table.width) a.span.last)) at apart
 
-  pub can_count : first_outside s.config ≡ None → CanCount s file request.ioas span
+  pub can_count : first_outside s.config ≡ None → CanCount s.pool s.page_tables.tables file request.ioas
+      (own_areas s.objects file request.ioas) span
   can_count within = record {
     stand = record { frames = w.table_frames; leads = leads_of w; stand = shows.tables.stand };
     leave = can_leave;

@@ -4,7 +4,7 @@ use Rattle.std.proofs.Common.{arith}
 use Rattle.std.proofs.lemmas.Bool.Decides.{nat_tests}
 use Rattle.iofd_words.specs.Areas.{areas_meet, is_cut, is_everything, unmapped_span}
 use Rattle.iofd_words.specs.Bounds.{Bounds}
-use Rattle.iofd_words.specs.Checks.{unmap_checks}
+use Rattle.iofd_refusals.specs.Checks.{unmap_checks}
 use Rattle.iofd_words.specs.FirstTrue.{first_true}
 use Rattle.iofd_words.specs.Objects.{has_ioas}
 use Rattle.iofd_words.specs.Pages.{is_above_sum}

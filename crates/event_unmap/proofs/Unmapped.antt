@@ -9,8 +9,8 @@ use Rattle.area_map_rows.proofs.Kept.{length-filter-le}
 use Rattle.iofd_rows.proofs.Bools.{and_true}
 use Rattle.iofd_rows.proofs.Found.{all_filter}
 use Rattle.iofd_runs.proofs.NotRefused.{unmap_passed}
-use Rattle.iofd_words.specs.After.{changed, settle, unmapped, without_areas}
-use Rattle.iofd_words.specs.Answers.{Answers, UnmapAnswers, waits}
+use Rattle.iofd_steps.specs.After.{changed, settle, unmapped, without_areas}
+use Rattle.iofd_steps.specs.Answers.{Answers, UnmapAnswers, waits}
 use Rattle.iofd_words.specs.Areas.{areas_of, is_cut, is_of, is_held_back, is_touched, most_tries}
 use Rattle.iofd_words.specs.Areas.{pending_errno}
 use Rattle.iofd_words.specs.Areas.{touched, touched_bytes, touched_tries, unmapped_span, with_leaving}
@@ -19,7 +19,7 @@ use Rattle.iofd_words.specs.Bounds.{Bounds}
 use Rattle.iofd_runs.specs.Fits.{devices_rise, is_of_pages}
 use Rattle.iofd_rows.specs.Pinned.{ArePinned}
 use Rattle.iofd_runs.proofs.KeepsPins.{keeps_pins}
-use Rattle.iofd_words.specs.Checks.{unmap_checks}
+use Rattle.iofd_refusals.specs.Checks.{unmap_checks}
 use Rattle.iofd_words.specs.FirstTrue.{first_true}
 use Rattle.iofd_words.specs.Objects.{has_hwpt}
 use Rattle.frame_memory.specs.Pool.{FramePool}

@@ -12,14 +12,13 @@ use Rattle.page_table_set.specs.Idle.{AllCanLeave, CanShed, is_idle_in}
 use Rattle.page_table_set.specs.OverSpans.{hwpts_over}
 use Rattle.page_table_set.specs.PageTables.{AllStand, Hwpt, Stand}
 use Rattle.page_table_words.specs.Rows.{MappedPage}
-use Rattle.server_state.specs.Mapping.{own_areas}
-use Rattle.server_state.specs.declared.state.State.{State}
 
 -- page tables stand, the areas lie below the end of each one over the address space, and the span cuts none
-pub record CanCount {A : Type 0} (s : State A) (file : FileNo) (ioas : ObjId) (span : Bounds) : Type 0 where
-  pub stand : Stand s.pool s.page_tables.tables
-  pub leave : AllCanLeave file ioas (own_areas s.objects file ioas) span s.page_tables.tables
-  pub few : length (hwpts_over file ioas s.page_tables.tables) ≤ 65535
+pub record CanCount (pool : FramePool) (tables : List Hwpt) (file : FileNo) (ioas : ObjId) (areas : List Area)
+    (span : Bounds) : Type 0 where
+  pub stand : Stand pool tables
+  pub leave : AllCanLeave file ioas areas span tables
+  pub few : length (hwpts_over file ioas tables) ≤ 65535
 
 -- in whatever way they stand in which no table is idle before, this holds
 abbrev pub IfNeeded : FramePool → List Hwpt → FileNo → ObjId → List Area → (List TableFrame → Type 0) → Type 0

@@ -28,8 +28,7 @@ pub(crate) fn clear<A: Allocator>(
     if page_tables.has_over(file, ioas) {
         clear_areas(areas, file, ioas, page_tables, pool);
     }
-    // A pool has the bytes of each of its frames.
-    let _ = pool.len();
+    pool.facts();
 }
 
 /// The pages of these areas are cleared.

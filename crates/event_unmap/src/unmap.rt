@@ -2,17 +2,15 @@
 
 ghost use Rattle.std.specs.Prelude.{◌≡◌, ◌<◌, ◌≤◌, ◌^◌, ◌&&◌, ◌∷◌, [], ℕ, false};
 ghost use Rattle.std.specs.Prelude.{length, not, None, IfOk, IfSome, IsSome, IsTrue, OnErr, Option};
-ghost use Rattle.area_map_rows.specs.Areas.{AreKept, bytes_of};
+ghost use Rattle.area_map_rows.specs.Areas.{bytes_of};
 ghost use Rattle.iofd_words.specs.Areas.{areas_meet, is_cut, is_everything, most_areas, unmapped_span};
-ghost use Rattle.iofd_words.specs.Answers.{waits};
-ghost use Rattle.iofd_words.specs.Checks.{unmap_checks};
+ghost use Rattle.iofd_steps.specs.Answers.{waits};
+ghost use Rattle.iofd_refusals.specs.Checks.{unmap_checks};
 ghost use Rattle.iofd_words.specs.FirstTrue.{first_true};
 ghost use Rattle.iofd_words.specs.Pages.{is_above_sum};
 ghost use Rattle.iofd_words.specs.View.{view};
 ghost use Rattle.iofd_words.specs.World.{World};
 ghost use Rattle.iofd_words.specs.declared.event.Event.TheVariants as event;
-ghost use Rattle.held_pins.specs.HeldPins.{are_met};
-ghost use Rattle.server_state.specs.Mapping.{own_areas, some_waits};
 ghost use Rattle.server_state.specs.Seen.{seen};
 ghost use Rattle.server_state.specs.Held.{objects_in};
 ghost use Rattle.server_state.specs.Shows.{Shows};
@@ -22,13 +20,13 @@ ghost use Rattle.iofd_words.specs.declared.numbers.FrameNo.{FrameNo};
 
 use crate::{clearing, devices, idle, waiting};
 use area_map::{Areas, Iter};
-use iofd_words::{Cause, DeviceSet, FileNo, FrameNo, NoMemory, ObjId, Reply, Span, UnmapRequest};
+use iofd_words::{Cause, FileNo, FrameNo, NoMemory, Reply, Span, UnmapRequest};
 use server_state::addresses::is_above_sum;
 use server_state::{State, area_changes, lookups, release};
 use std::alloc::Allocator;
 
 /// Why it is refused, by the first row of the definitions that holds. None where nothing refuses it.
-#[tactic(auto, unfolding(iofd_words::specs::Checks::unmap_checks))]
+#[tactic(auto, unfolding(iofd_refusals::specs::Checks::unmap_checks))]
 pub fn refusal<A: Allocator>(state: &State<A>, file: FileNo, request: UnmapRequest) -> Option<Cause>
     ensures { result ≡ first_true (unmap_checks (seen state.now) file request) }
 {
@@ -87,6 +85,7 @@ pub fn commit<A: Allocator>(
     ensures ok { IfOk result (λ reply. (at : ℕ) (via : Option FrameNo) →
         MovingSteps at (event.Unmap file request) via state.old reply [] given.new.items state.new) }
     ensures err { OnErr result (ShowsSame state.old state.new) }
+    ensures none_err { OnErr result (given.new.items ≡ []) }
     ensures memory { OnErr result (IsTrue (has_hwpt (objects_in state.old.objects) file request.ioas)) }
     ensures pending { OnErr result ((at : ℕ) (w : World) → IsTidy at w → Shows w state.old →
         first_true (unmap_checks (view w) file request) ≡ None → waits w file request ≡ false) }
@@ -101,25 +100,42 @@ pub fn commit<A: Allocator>(
         unreachable!()
     };
     let translated = state.has_hwpt(file, ioas);
-    let waits = must_wait(state, file, ioas, span, &attached);
-    // Its clause says that the configuration is within its limits: so there are few page tables.
-    let _ = state.config.pool();
-    idle::reserve_given(state, file, ioas, span, translated, waits, given)?;
-    let areas = area_changes::areas_within(&state.objects, file, ioas, span);
+    // It is within its limits: so there are few page tables.
+    state.config.facts();
+    let Some(areas) = lookups::areas_of(&state.objects, file, ioas) else {
+        // It was refused.
+        unreachable!()
+    };
+    let pins = &state.access_pins;
+    let waits = area_changes::some_waits(areas.within(span), &attached, file, ioas, pins);
+    let (page_tables, pool) = (&state.page_tables, &state.pool);
+    idle::reserve_given(
+        page_tables,
+        pool,
+        file,
+        ioas,
+        areas,
+        span,
+        translated,
+        waits,
+        given,
+    )?;
+    let met = areas.within(span);
     clearing::clear(
-        areas.again(),
+        met.again(),
         file,
         ioas,
         &mut state.page_tables,
         &mut state.pool,
     );
     if waits {
-        return Ok(waiting::wait(&mut state.objects, file, ioas, span, &attached));
+        let most = areas.most_tries(span);
+        return Ok(waiting::wait(&mut state.objects, file, ioas, span, &attached, most));
     }
-    let bytes = bytes_of(areas.again());
-    release::remove(areas, translated, &mut state.memory, &mut state.pool);
+    let bytes = bytes_of(met.again());
+    release::remove(met, translated, &mut state.memory, &mut state.pool);
     idle::give_back(
-        &state.objects,
+        areas,
         file,
         ioas,
         span,
@@ -129,22 +145,6 @@ pub fn commit<A: Allocator>(
     );
     area_changes::remove(&mut state.objects, file, ioas, span);
     Ok(Reply::Bytes(bytes))
-}
-
-/// Whether an area in the span may not go yet, where these devices are attached.
-fn must_wait<A: Allocator>(
-    state: &State<A>,
-    file: FileNo,
-    ioas: ObjId,
-    span: Span,
-    attached: &DeviceSet,
-) -> bool
-    ensures waits { result ≡ some_waits span attached.now (λ area. are_met state.now.access_pins file ioas area.span)
-        (own_areas state.now.objects file ioas) }
-    ensures kept { AreKept (own_areas state.now.objects file ioas) }
-{
-    let areas = area_changes::areas_within(&state.objects, file, ioas, span);
-    area_changes::some_waits(areas, attached, file, ioas, &state.access_pins)
 }
 
 /// How many bytes the areas have: at most 65,535 areas of at most 2^48 bytes.

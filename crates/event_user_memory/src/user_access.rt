@@ -1,7 +1,7 @@
 //! Why a user's access to its own memory is refused.
 
 ghost use Rattle.std.specs.Prelude.{◌≡◌};
-ghost use Rattle.iofd_words.specs.Checks.{user_access_checks};
+ghost use Rattle.iofd_refusals.specs.Checks.{user_access_checks};
 ghost use Rattle.iofd_words.specs.FirstTrue.{first_true};
 ghost use Rattle.server_state.specs.Seen.{seen};
 

@@ -1,7 +1,7 @@
 //! UserMap: a page of a user's memory gets a frame.
 
 ghost use Rattle.std.specs.Prelude.{◌≡◌, ℕ, Option, IfOk, OnErr};
-ghost use Rattle.iofd_words.specs.Checks.{user_map_checks};
+ghost use Rattle.iofd_refusals.specs.Checks.{user_map_checks};
 ghost use Rattle.iofd_words.specs.FirstTrue.{first_true};
 ghost use Rattle.iofd_words.specs.declared.event.Event.TheVariants as event;
 ghost use Rattle.iofd_words.specs.declared.numbers.FrameNo.{FrameNo};
@@ -13,7 +13,7 @@ use server_state::State;
 use std::alloc::Allocator;
 
 /// Why it is refused, by the first row of the definitions that holds. None where nothing refuses it.
-#[tactic(auto, unfolding(iofd_words::specs::Checks::user_map_checks))]
+#[tactic(auto, unfolding(iofd_refusals::specs::Checks::user_map_checks))]
 pub fn refusal<A: Allocator>(state: &State<A>, user: UserNo, va: u64) -> Option<Cause>
     ensures { result ≡ first_true (user_map_checks (seen state.now) user va) }
 {

@@ -2,7 +2,7 @@
 
 ghost use Rattle.std.specs.Prelude.{◌≡◌, ℕ, List, None};
 ghost use Rattle.iofd_words.specs.FirstTrue.{first_true};
-ghost use Rattle.iofd_words.specs.Look.{lawful_answers, query_checks};
+ghost use Rattle.iofd_steps.specs.Look.{lawful_answers, query_checks};
 ghost use Rattle.iofd_words.specs.View.{view};
 ghost use Rattle.iofd_words.specs.World.{World};
 ghost use Rattle.iofd_words.specs.declared.query.Query.TheVariants as queries;

@@ -1,7 +1,7 @@
 //! UserUnmap: a page goes out of a user's memory.
 
 ghost use Rattle.std.specs.Prelude.{◌≡◌, ℕ};
-ghost use Rattle.iofd_words.specs.Checks.{user_unmap_checks};
+ghost use Rattle.iofd_refusals.specs.Checks.{user_unmap_checks};
 ghost use Rattle.iofd_words.specs.FirstTrue.{first_true};
 ghost use Rattle.iofd_words.specs.declared.event.Event.TheVariants as event;
 ghost use Rattle.server_state.specs.Seen.{seen};
@@ -12,7 +12,7 @@ use server_state::State;
 use std::alloc::Allocator;
 
 /// Why it is refused, by the first row of the definitions that holds. None where nothing refuses it.
-#[tactic(auto, unfolding(iofd_words::specs::Checks::user_unmap_checks))]
+#[tactic(auto, unfolding(iofd_refusals::specs::Checks::user_unmap_checks))]
 pub fn refusal<A: Allocator>(state: &State<A>, user: UserNo, va: u64) -> Option<Cause>
     ensures { result ≡ first_true (user_unmap_checks (seen state.now) user va) }
 {

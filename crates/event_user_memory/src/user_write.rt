@@ -1,7 +1,7 @@
 //! UserWrite: a user writes its own memory.
 
 ghost use Rattle.std.specs.Prelude.{◌≡◌, ℕ};
-ghost use Rattle.iofd_words.specs.Checks.{user_write_checks};
+ghost use Rattle.iofd_refusals.specs.Checks.{user_write_checks};
 ghost use Rattle.iofd_words.specs.FirstTrue.{first_true};
 ghost use Rattle.iofd_words.specs.declared.event.Event.TheVariants as event;
 ghost use Rattle.server_state.specs.Seen.{seen};
@@ -13,7 +13,7 @@ use server_state::State;
 use std::alloc::Allocator;
 
 /// Why it is refused, by the first row of the definitions that holds. None where nothing refuses it.
-#[tactic(auto, unfolding(iofd_words::specs::Checks::user_write_checks))]
+#[tactic(auto, unfolding(iofd_refusals::specs::Checks::user_write_checks))]
 pub fn refusal<A: Allocator>(
     state: &State<A>,
     user: UserNo,

@@ -61,6 +61,14 @@ impl<A: Allocator> Pool<A> {
         })
     }
 
+    /// What holds of every pool: it has few frames, and the bytes of each. The call does nothing else.
+    pub fn facts(&self)
+        ensures few { length self.now.holds ≤ 4096 }
+        ensures bytes { length self.now.bytes ≡ length self.now.holds }
+    {
+        let _ = &self.count;
+    }
+
     /// How many frames the pool has, at most 4096.
     pub fn len(&self) -> usize
         ensures value { result ≡ length self.now.holds }

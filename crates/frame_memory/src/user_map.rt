@@ -1,6 +1,6 @@
 //! The pages of the users' memory.
 
-ghost use Rattle.std.specs.Prelude.{◌≡◌, ◌<◌, ◌≤◌, ◌+◌, ◌-◌, [], length, slice_index, IfOk};
+ghost use Rattle.std.specs.Prelude.{◌≡◌, ◌<◌, ◌≤◌, ◌+◌, ◌-◌, ◌^◌, [], length, slice_index, IfOk};
 ghost use Rattle.std.specs.Prelude.{IfSome, IfNone, OnOk};
 ghost use Rattle.std.specs.Prelude.{OnErr, IsOkUnless};
 ghost use Rattle.iofd_words.specs.Frames.{frame_at};
@@ -40,6 +40,13 @@ impl<A: Allocator> UserMap<A> {
         UserMap {
             pages: PageFrames::new(alloc),
         }
+    }
+
+    /// What holds of the users' pages: their number is one of 64 bits. The call does nothing else.
+    pub fn facts(&self)
+        ensures { length self.now.pages < 2 ^ 64 }
+    {
+        let _ = self.len();
     }
 
     /// How many pages there are.

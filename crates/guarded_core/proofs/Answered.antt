@@ -5,14 +5,14 @@ use Rattle.std.specs.List.{list_any}
 use Rattle.iofd_rows.proofs.Bools.{and_true}
 use Rattle.iofd_runs.proofs.Runs.{run_keeps}
 use Rattle.iofd_runs.proofs.SameSettings.{keeps_settings, tabled_settings}
-use Rattle.iofd_words.specs.Checks.{access_checks}
+use Rattle.iofd_refusals.specs.Checks.{access_checks}
 use Rattle.iofd_words.specs.Files.{is_device}
 use Rattle.iofd_words.specs.FirstTrue.{first_true}
 use Rattle.iofd_words.specs.Frames.{bytes_at}
-use Rattle.iofd_words.specs.Look.{answers_in, answers_to, cached_answers, passes_in}
+use Rattle.iofd_steps.specs.Look.{answers_in, answers_to, cached_answers, passes_in}
 use Rattle.iofd_words.specs.Pages.{offset_of}
 use Rattle.iofd_words.specs.Policy.{is_pass_at, outcomes}
-use Rattle.iofd_words.specs.Run.{IsRun, world_of}
+use Rattle.iofd_steps.specs.Run.{IsRun, world_of}
 use Rattle.iofd_words.specs.Settings.{Settings}
 use Rattle.iofd_words.specs.Turns.{turns_of}
 use Rattle.iofd_words.specs.View.{view}

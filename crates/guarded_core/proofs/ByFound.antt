@@ -2,10 +2,10 @@
 use Rattle.std.proofs.Common.{◌≡◌, ℕ, true, false, IsTrue, Option, Some, None, IfSome, List, length, Contains, refl, sym}
 use Rattle.std.proofs.Common.{ap, ◌∙◌}
 use Rattle.iofd_words.specs.Files.{is_device}
-use Rattle.iofd_words.specs.Look.{answers_to}
+use Rattle.iofd_steps.specs.Look.{answers_to}
 use Rattle.iofd_words.specs.Pages.{crosses, page_of}
 use Rattle.iofd_words.specs.Rights.{has_right}
-use Rattle.iofd_words.specs.Run.{IsRun}
+use Rattle.iofd_steps.specs.Run.{IsRun}
 use Rattle.iofd_words.specs.Settings.{Settings}
 use Rattle.iofd_words.specs.Turns.{turns_of}
 use Rattle.iofd_words.specs.View.{view}

@@ -8,10 +8,10 @@ use Rattle.std.proofs.lemmas.Bool.{eqb-true}
 use Rattle.std.specs.Map.{lookup, remove_entry}
 use Rattle.lru.proofs.CallerLemmas.{Contains-remove_entry, Contains-take}
 use Rattle.lru.proofs.Splits.{Contains-cons, Contains-nil}
-use Rattle.iofd_words.specs.Look.{passes_in}
+use Rattle.iofd_steps.specs.Look.{passes_in}
 use Rattle.iofd_words.specs.Pages.{crosses, page_of}
 use Rattle.iofd_words.specs.Rights.{has_right}
-use Rattle.iofd_words.specs.Run.{IsRun}
+use Rattle.iofd_steps.specs.Run.{IsRun}
 use Rattle.iofd_words.specs.Settings.{Settings}
 use Rattle.iofd_words.specs.Turns.{turns_of}
 use Rattle.iofd_words.specs.View.{view}

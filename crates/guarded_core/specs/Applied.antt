@@ -1,7 +1,7 @@
 -- An act that a core has applied.
 use Rattle.std.specs.Prelude.{◌≡◌, None, length}
-use Rattle.iofd_words.specs.Checks.{refusal}
-use Rattle.iofd_words.specs.Run.{IsRun}
+use Rattle.iofd_refusals.specs.Checks.{refusal}
+use Rattle.iofd_steps.specs.Run.{IsRun}
 use Rattle.iofd_words.specs.declared.event.Act.{Act}
 use Rattle.iofd_words.specs.declared.numbers.PassNo.{PassNo}
 use Rattle.iommufd_core.specs.History.{HasOneMore, History, world}

@@ -3,10 +3,10 @@ use Rattle.std.specs.Prelude.{◌≡◌, ◌⊎◌, ℕ, nat_eq, Option, Some, N
 use Rattle.std.specs.Map.{lookup}
 use Rattle.std.specs.Option.{option_map}
 use Rattle.iofd_words.specs.Frames.{bytes_at}
-use Rattle.iofd_words.specs.Look.{answers_to}
+use Rattle.iofd_steps.specs.Look.{answers_to}
 use Rattle.iofd_words.specs.Pages.{offset_of, page_of}
 use Rattle.iofd_words.specs.Rights.{has_right}
-use Rattle.iofd_words.specs.Run.{IsRun, world_of}
+use Rattle.iofd_steps.specs.Run.{IsRun, world_of}
 use Rattle.iofd_words.specs.Settings.{Settings}
 use Rattle.iofd_words.specs.Turns.{turns_of}
 use Rattle.iofd_words.specs.View.{view}

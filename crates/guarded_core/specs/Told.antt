@@ -3,7 +3,7 @@ use Rattle.std.specs.Prelude.{◌≡◌, ◌<◌, ◌^◌, ℕ, length, Result, 
 use Rattle.iofd_words.specs.Accesses.{notices}
 use Rattle.iofd_words.specs.Bounds.{Bounds}
 use Rattle.iofd_words.specs.FirstTrue.{first_true}
-use Rattle.iofd_words.specs.Look.{AreUsableRanges, notices_checks, ranges_checks}
+use Rattle.iofd_steps.specs.Look.{AreUsableRanges, notices_checks, ranges_checks}
 use Rattle.iofd_words.specs.View.{view}
 use Rattle.iofd_words.specs.declared.call_error.CallError.{CallError}
 use Rattle.iofd_words.specs.declared.call_error.CallError.TheVariants as error

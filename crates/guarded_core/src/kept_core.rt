@@ -1,8 +1,8 @@
 //! A core as the lock keeps it.
 
 ghost use Rattle.std.specs.Prelude.{◌≡◌, false};
-ghost use Rattle.iofd_words.specs.Look.{answers_to};
-ghost use Rattle.iofd_words.specs.Run.{IsRun};
+ghost use Rattle.iofd_steps.specs.Look.{answers_to};
+ghost use Rattle.iofd_steps.specs.Run.{IsRun};
 ghost use Rattle.server_state.specs.Choice.{IsLooked};
 ghost use Rattle.guarded_core.specs.OfPort.{query_of_port};
 ghost use Rattle.guarded_core.specs.Told.{TellsJournal, TellsNotices, TellsRanges};

@@ -1,9 +1,3 @@
 pub mod Bound
-pub mod Detached
-pub mod DetachedShown
-pub mod Flushed
 pub mod NeverRefused
-pub mod OneUser
-pub mod PaidLeads
-pub mod TableGone
 pub mod Unbound

@@ -1,6 +1,6 @@
 -- Where nothing refuses an event, the file takes one more object, and a bound device has settings.
 use Rattle.std.proofs.Common.{◌≡◌, None}
-use Rattle.iofd_words.specs.Checks.{bind_checks}
+use Rattle.iofd_refusals.specs.Checks.{bind_checks}
 use Rattle.iofd_words.specs.FirstTrue.{first_true}
 use Rattle.iofd_words.specs.View.{view}
 use Rattle.iofd_words.specs.World.{World}

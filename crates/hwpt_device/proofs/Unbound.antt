@@ -5,7 +5,7 @@ use Rattle.std.specs.List.{filter, find, list_all}
 use Rattle.std.proofs.lemmas.Bool.{and_parts}
 use Rattle.std.proofs.lemmas.Bool.Decides.{nat_tests}
 use Rattle.iofd_words.specs.Areas.{areas_of}
-use Rattle.iofd_words.specs.Checks.{is_device_object, unbind_checks}
+use Rattle.iofd_refusals.specs.Checks.{is_device_object, unbind_checks}
 use Rattle.iofd_words.specs.FirstTrue.{first_true}
 use Rattle.iofd_words.specs.Objects.{binding_of, has_ioas, is_bound_as, is_bound_device, is_hwpt, is_ioas, is_object}
 use Rattle.iofd_words.specs.Objects.{kind_of, without_device_object, without_object}

@@ -1,7 +1,7 @@
 //! Bind: a device is bound to a file.
 
 ghost use Rattle.std.specs.Prelude.{◌≡◌, ℕ, IfOk, OnErr};
-ghost use Rattle.iofd_words.specs.Checks.{bind_checks};
+ghost use Rattle.iofd_refusals.specs.Checks.{bind_checks};
 ghost use Rattle.iofd_words.specs.FirstTrue.{first_true};
 ghost use Rattle.iofd_words.specs.declared.event.Event.TheVariants as event;
 ghost use Rattle.server_state.specs.Seen.{seen};
@@ -12,7 +12,7 @@ use server_state::{Held, State, devices};
 use std::alloc::Allocator;
 
 /// Why it is refused, by the first row of the definitions that holds. None where nothing refuses it.
-#[tactic(auto, using(server_state::proofs::Objects::fullness), unfolding(iofd_words::specs::Checks::bind_checks))]
+#[tactic(auto, using(server_state::proofs::Objects::fullness), unfolding(iofd_refusals::specs::Checks::bind_checks))]
 pub fn refusal<A: Allocator>(state: &State<A>, file: FileNo, device: DeviceNo) -> Option<Cause>
     requires { IsKnown state.now }
     ensures { result ≡ first_true (bind_checks (seen state.now) file device) }

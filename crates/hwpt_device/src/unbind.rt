@@ -1,7 +1,7 @@
 //! Unbind: a device is bound no more.
 
 ghost use Rattle.std.specs.Prelude.{◌≡◌, ℕ, not, filter};
-ghost use Rattle.iofd_words.specs.Checks.{unbind_checks};
+ghost use Rattle.iofd_refusals.specs.Checks.{unbind_checks};
 ghost use Rattle.iofd_words.specs.FirstTrue.{first_true};
 ghost use Rattle.iofd_words.specs.Objects.{is_bound_as};
 ghost use Rattle.iofd_words.specs.declared.event.Event.TheVariants as event;
@@ -14,7 +14,7 @@ use server_state::{State, lookups, release};
 use std::alloc::Allocator;
 
 /// Why it is refused, by the first row of the definitions that holds. None where nothing refuses it.
-#[tactic(auto, unfolding(iofd_words::specs::Checks::unbind_checks))]
+#[tactic(auto, unfolding(iofd_refusals::specs::Checks::unbind_checks))]
 pub fn refusal<A: Allocator>(state: &State<A>, file: FileNo, id: ObjId) -> Option<Cause>
     requires { IsKnown state.now }
     ensures { result ≡ first_true (unbind_checks (seen state.now) file id) }

@@ -37,7 +37,7 @@ use Rattle.user_memory.specs.Memory.{Memory, are_of, frame_now, lacks_page, newl
 use Rattle.user_memory.specs.Memory.{rows_of}
 use Rattle.std.proofs.Common.{subst}
 use Rattle.iofd_rows.specs.Ids.{have_own_ids}
-use Rattle.iofd_words.specs.Checks.{passes_limit, passes_limit_attached}
+use Rattle.iofd_refusals.specs.Checks.{passes_limit, passes_limit_attached}
 use Rattle.user_memory_rows.proofs.FramesFollow.{is_backed}
 use Rattle.user_memory_rows.proofs.PinsFollow.{only_kept}
 use Rattle.user_memory_rows.specs.Moves.{MayPin, PinsAreKnown}

@@ -4,12 +4,12 @@ use Rattle.std.proofs.Common.{List, [], length, Vec, refl, sym, ◌∙◌, ap, s
 use Rattle.std.specs.List.{find}
 use Rattle.std.specs.Prelude.{IsTrue}
 use Rattle.std.specs.Option.{option_map}
-use Rattle.iofd_words.specs.After.{attach_changes, attached, changed, device_attached, joined, settle, target_changes}
-use Rattle.iofd_words.specs.After.{with_hwpt}
-use Rattle.iofd_words.specs.Answers.{Answers, IsHwptFor, IsHwptOf, IsTarget}
+use Rattle.iofd_steps.specs.After.{attach_changes, attached, changed, device_attached, joined, settle, target_changes}
+use Rattle.iofd_steps.specs.After.{with_hwpt}
+use Rattle.iofd_steps.specs.Answers.{Answers, IsHwptFor, IsHwptOf, IsTarget}
 use Rattle.iofd_words.specs.Areas.{all_paid}
 use Rattle.iofd_words.specs.Attachments.{attachment_of, with_attachment}
-use Rattle.iofd_words.specs.Checks.{attach_checks, lacks_attached_frames, lacks_room_for_hwpt}
+use Rattle.iofd_refusals.specs.Checks.{attach_checks, lacks_attached_frames, lacks_room_for_hwpt}
 use Rattle.iofd_words.specs.Files.{device_of}
 use Rattle.iofd_words.specs.FirstTrue.{first_true}
 use Rattle.iofd_words.specs.Objects.{automatic_hwpt, binding_of, is_bound_as, is_fresh, is_full, is_ioas, kind_of}

@@ -3,9 +3,9 @@ use Rattle.std.proofs.Common.{◌≡◌, ℕ, true, false, ◌&&◌, is_none, is
 use Rattle.std.proofs.Common.{sym, ◌∙◌, ap, subst}
 use Rattle.std.specs.List.{find}
 use Rattle.std.specs.Prelude.{IsTrue}
-use Rattle.iofd_words.specs.After.{changed, hwpt_changes}
-use Rattle.iofd_words.specs.Answers.{Answers}
-use Rattle.iofd_words.specs.Checks.{hwpt_alloc_checks}
+use Rattle.iofd_steps.specs.After.{changed, hwpt_changes}
+use Rattle.iofd_steps.specs.Answers.{Answers}
+use Rattle.iofd_refusals.specs.Checks.{hwpt_alloc_checks}
 use Rattle.iofd_words.specs.Files.{device_of, is_open}
 use Rattle.iofd_words.specs.FirstTrue.{first_true}
 use Rattle.iofd_words.specs.Objects.{device_in, device_under, is_fresh, is_object, settings_under}

@@ -3,8 +3,11 @@ pub mod AreasOwn
 pub mod Asks
 pub mod AttachedShown
 pub mod CountedOnce
+pub mod Detached
+pub mod DetachedShown
 pub mod Filled
 pub mod FilledInTurn
+pub mod Flushed
 pub mod FullFile
 pub mod Gained
 pub mod HwptMade
@@ -13,10 +16,13 @@ pub mod MayAdd
 pub mod MovesMade
 pub mod Narrowed
 pub mod NeverRefused
+pub mod OneUser
+pub mod PaidLeads
 pub mod PinnedFirst
 pub mod PinnedNone
 pub mod RootAdded
 pub mod SpaceCounted
+pub mod TableGone
 pub mod TableMade
 pub mod TablesInTurn
 pub mod TakenAlone

@@ -18,7 +18,7 @@ use Rattle.iofd_runs.proofs.MissingTables.{is_owned}
 use Rattle.iofd_runs.proofs.StillTabled.{orphan_is}
 use Rattle.iofd_runs.proofs.TableCounts.{lacking_alike, no_kind, no_rows}
 use Rattle.iofd_runs.specs.Fits.{begins_at_page, has_rights, is_of_pages}
-use Rattle.iofd_words.specs.After.{settle}
+use Rattle.iofd_steps.specs.After.{settle}
 use Rattle.iofd_words.specs.Areas.{areas_of, is_of}
 use Rattle.iofd_words.specs.Objects.{has_hwpt, is_fresh, is_object, kind_of, with_object}
 use Rattle.iofd_words.specs.Span.{meets, size_of}

@@ -5,9 +5,9 @@ use Rattle.std.specs.List.{list_all}
 use Rattle.std.proofs.lemmas.Bool.Decides.{nat_tests}
 use Rattle.frame_memory.specs.Pool.{free_count}
 use Rattle.iofd_runs.proofs.TableCounts.{count_new, no_kind}
-use Rattle.iofd_words.specs.After.{settle}
+use Rattle.iofd_steps.specs.After.{settle}
 use Rattle.iofd_words.specs.Areas.{areas_of}
-use Rattle.iofd_words.specs.Checks.{lacks_new_tables}
+use Rattle.iofd_refusals.specs.Checks.{lacks_new_tables}
 use Rattle.iofd_words.specs.Objects.{is_fresh, with_object}
 use Rattle.iofd_words.specs.Settings.{DeviceSettings}
 use Rattle.iofd_words.specs.TablePlaces.{lacking, live_pages, places_of}

@@ -12,7 +12,7 @@ use Rattle.iofd_runs.specs.InUsable.{AreasUsable, is_in_usable}
 use Rattle.iofd_words.specs.Allowed.{allowed_of}
 use Rattle.iofd_words.specs.Areas.{areas_meet, areas_of, is_of}
 use Rattle.iofd_words.specs.Bounds.{Bounds}
-use Rattle.iofd_words.specs.Checks.{narrows, narrows_by_width, narrows_without, unusable_in}
+use Rattle.iofd_refusals.specs.Checks.{narrows, narrows_by_width, narrows_without, unusable_in}
 use Rattle.iofd_words.specs.Ranges.{meets_some}
 use Rattle.iofd_words.specs.Settings.{DeviceSettings}
 use Rattle.iofd_words.specs.Span.{meets}

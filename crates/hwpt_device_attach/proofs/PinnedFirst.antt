@@ -12,7 +12,7 @@ use Rattle.iofd_runs.proofs.Accessed.{HoldersStay}
 use Rattle.iofd_runs.proofs.HoldersStay.{more_accesses}
 use Rattle.iofd_runs.proofs.KeepsPins.{table_pinned}
 use Rattle.iofd_runs.proofs.OwnIds.{any_found, unused}
-use Rattle.iofd_words.specs.After.{settle}
+use Rattle.iofd_steps.specs.After.{settle}
 use Rattle.iofd_words.specs.Areas.{areas_of}
 use Rattle.iofd_words.specs.Frames.{frame_at}
 use Rattle.iofd_words.specs.Pins.{ObjectPage}

@@ -17,7 +17,7 @@ use Rattle.iofd_runs.proofs.Accessed.{each_held}
 use Rattle.iofd_runs.proofs.RisingLists.{filter-with_object}
 use Rattle.iofd_runs.proofs.StillTabled.{none_given}
 use Rattle.iofd_runs.proofs.TableCounts.{missing_with_object}
-use Rattle.iofd_words.specs.After.{settle}
+use Rattle.iofd_steps.specs.After.{settle}
 use Rattle.iofd_words.specs.Areas.{areas_of}
 use Rattle.iofd_words.specs.Frames.{is_free}
 use Rattle.iofd_words.specs.Objects.{is_bound_as, is_fresh, is_hwpt, is_object, with_object}

@@ -1,3 +1,4 @@
+pub mod Attaching
 pub mod Filling
 pub mod Making
 pub mod Narrow

@@ -2,8 +2,8 @@
 use Rattle.std.specs.Prelude.{◌≡◌, nat_lt, ℕ, Bool, true, false, Option, Some, None, List, [], length, IsTrue}
 use Rattle.std.specs.List.{list_any}
 use Rattle.std.specs.Option.{option_map}
-use Rattle.iofd_words.specs.After.{settle}
-use Rattle.iofd_words.specs.Checks.{lacks_attached_page, passes_limit_attached}
+use Rattle.iofd_steps.specs.After.{settle}
+use Rattle.iofd_refusals.specs.Checks.{lacks_attached_page, passes_limit_attached}
 use Rattle.iofd_words.specs.Files.{device_of}
 use Rattle.iofd_words.specs.Objects.{automatic_hwpt, has_ioas, is_fresh, is_full, kind_of, with_object}
 use Rattle.iofd_words.specs.Settings.{Settings}

@@ -1,8 +1,9 @@
 //! Attach: a device translates by a page table.
 
 ghost use Rattle.std.specs.Prelude.{◌≡◌, ℕ, Bool, false, Option, Some, [], IfOk, OnErr};
-ghost use Rattle.iofd_words.specs.Checks.{attach_checks, has_other_width, lacks_attached_frames, lacks_room_for_hwpt};
-ghost use Rattle.iofd_words.specs.Checks.{narrows, target_checks};
+ghost use Rattle.iofd_refusals.specs.Checks.{attach_checks, has_other_width, lacks_attached_frames};
+ghost use Rattle.iofd_refusals.specs.Checks.{lacks_room_for_hwpt};
+ghost use Rattle.iofd_refusals.specs.Checks.{narrows, target_checks};
 ghost use Rattle.iofd_words.specs.FirstTrue.{first_true};
 ghost use Rattle.iofd_words.specs.Files.{device_of};
 ghost use Rattle.iofd_words.specs.Objects as objects;
@@ -23,7 +24,7 @@ use server_state::{State, counts, lookups};
 use std::alloc::Allocator;
 
 /// Why it is refused, by the first row of the definitions that holds. None where nothing refuses it.
-#[tactic(auto, unfolding(iofd_words::specs::Checks::attach_checks))]
+#[tactic(auto, unfolding(iofd_refusals::specs::Checks::attach_checks))]
 pub fn refusal<A: Allocator + Copy>(
     state: &State<A>,
     device: DeviceNo,
@@ -152,8 +153,8 @@ pub fn commit<A: Allocator + Copy>(
     };
     let there = table_there(state, file, pt_id, width);
     state.attachments.reserve(1)?;
-    // Its clause says that the configuration is within its limits: so there are few devices.
-    let _ = state.config.pool();
+    // It is within its limits: so there are few devices.
+    state.config.facts();
     if let Some(hwpt) = there {
         counts::one_more(&mut state.objects, file, Kind::Hwpt, hwpt);
         attachments::insert(&mut state.attachments, Attachment { device, file, hwpt });

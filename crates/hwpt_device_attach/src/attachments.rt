@@ -2,9 +2,9 @@
 
 ghost use Rattle.std.specs.Prelude.{◌≡◌, ◌<◌, ◌≤◌, length, vec_len, vec_capacity};
 ghost use Rattle.std.specs.List.{insert};
-ghost use Rattle.iofd_words.specs.Attachments.{with_attachment};
+ghost use Rattle.iofd_words.specs.Attachments.{with_attachment, without_attachment};
 
-use iofd_words::Attachment;
+use iofd_words::{Attachment, DeviceNo};
 use std::alloc::Allocator;
 
 /// Adds an attachment, by rising device, where there is room. It takes no memory.
@@ -14,6 +14,13 @@ pub(crate) fn insert<A: Allocator>(list: &mut Vec<Attachment, A>, attachment: At
 {
     let place = place_of(list, attachment);
     list.insert(place, attachment).unwrap();
+}
+
+/// Takes the device's attachment away. All others stay.
+pub(crate) fn remove<A: Allocator>(list: &mut Vec<Attachment, A>, device: DeviceNo)
+    ensures { list.new.items ≡ without_attachment device list.old.items }
+{
+    list.retain(|a| a.device != device);
 }
 
 /// Before which of them the attachment stands.

@@ -92,8 +92,7 @@ fn fill_area<A: Allocator>(
     ensures capacity { vec_capacity taken.new ≡ vec_capacity taken.old }
 {
     if is_live(&area.phase) {
-        // Its last address is one of 64 bits.
-        let _ = area.span.last();
+        area.span.facts();
         page_tables.map_in(
             pool,
             file,

@@ -1,7 +1,7 @@
 //! HwptAlloc: a file gets a page table of a device's width over one of its address spaces.
 
 ghost use Rattle.std.specs.Prelude.{◌≡◌, ℕ, Option, false, [], IfOk, OnErr};
-ghost use Rattle.iofd_words.specs.Checks.{hwpt_alloc_checks, lacks_new_tables, narrows_by_width};
+ghost use Rattle.iofd_refusals.specs.Checks.{hwpt_alloc_checks, lacks_new_tables, narrows_by_width};
 ghost use Rattle.iofd_words.specs.Files.{device_of};
 ghost use Rattle.iofd_words.specs.FirstTrue.{first_true};
 ghost use Rattle.iofd_words.specs.Objects as objects;
@@ -20,7 +20,7 @@ use server_state::{Held, State, lookups};
 use std::alloc::Allocator;
 
 /// Why it is refused, by the first row of the definitions that holds. None where nothing refuses it.
-#[tactic(auto, unfolding(iofd_words::specs::Checks::hwpt_alloc_checks))]
+#[tactic(auto, unfolding(iofd_refusals::specs::Checks::hwpt_alloc_checks))]
 pub fn refusal<A: Allocator + Copy>(
     state: &State<A>,
     file: FileNo,

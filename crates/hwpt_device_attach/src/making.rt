@@ -3,7 +3,7 @@
 ghost use Rattle.std.specs.Prelude.{◌≡◌, ◌<◌, ◌≤◌, ◌+◌, ℕ, false, [], length, IfOk, IsSome};
 ghost use Rattle.std.specs.Prelude.{OnErr, OnOk};
 ghost use Rattle.std.specs.Prelude.{vec_capacity, vec_len};
-ghost use Rattle.iofd_words.specs.Checks.{lacks_attached_page, passes_limit_attached};
+ghost use Rattle.iofd_refusals.specs.Checks.{lacks_attached_page, passes_limit_attached};
 ghost use Rattle.iofd_words.specs.TablePlaces.{lacking, live_pages, places_of};
 ghost use Rattle.object_table.specs.Table.{reserved_id};
 ghost use Rattle.server_state.specs.declared.held.Held.TheVariants as held;
@@ -82,8 +82,7 @@ pub(crate) fn make<A: Allocator + Copy>(
         &mut state.pool,
         taken,
     );
-    // Its clause says that the pool has bytes for each frame.
-    let _ = state.pool.len();
+    state.pool.facts();
     Ok(id)
 }
 

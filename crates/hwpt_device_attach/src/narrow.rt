@@ -5,7 +5,7 @@ ghost use Rattle.std.specs.List.{list_any};
 ghost use Rattle.hwpt_device_attach.specs.Narrow.{is_narrowed};
 ghost use Rattle.iofd_words.specs.Allowed.{allowed_of};
 ghost use Rattle.iofd_words.specs.Areas.{areas_meet};
-ghost use Rattle.iofd_words.specs.Checks.{narrows, narrows_by_width};
+ghost use Rattle.iofd_refusals.specs.Checks.{narrows, narrows_by_width};
 ghost use Rattle.iofd_words.specs.Files.{device_of};
 ghost use Rattle.iofd_words.specs.Ranges.{meets_some};
 ghost use Rattle.iofd_words.specs.Span.{meets};

@@ -1,7 +1,7 @@
 //! Whether an address space has to wait for its first page table.
 
 ghost use Rattle.std.specs.Prelude.{◌≡◌};
-ghost use Rattle.iofd_words.specs.Checks.{waits_for_leaving};
+ghost use Rattle.iofd_refusals.specs.Checks.{waits_for_leaving};
 ghost use Rattle.server_state.specs.Seen.{seen};
 ghost use Rattle.server_state.specs.Step.{IsKnown};
 

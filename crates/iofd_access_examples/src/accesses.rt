@@ -4,7 +4,7 @@ ghost use Rattle.std.specs.Prelude.{◌≡◌};
 ghost use Rattle.iofd_access_examples.specs.AccessRecords as records;
 ghost use Rattle.iofd_access_examples.specs.AccessScript as script;
 ghost use Rattle.iofd_examples.specs.Words.{ApplyIn, AreAnsweredIn, AreLawful, AreRefusedIn, NoneIsLawful};
-ghost use Rattle.iofd_words.specs.Run.{IsRun, IsRunFrom, world_from, world_of};
+ghost use Rattle.iofd_steps.specs.Run.{IsRun, IsRunFrom, world_from, world_of};
 
 /// Each piece of the script is a run from the world that those before it leave. The position is that of its first
 /// record.

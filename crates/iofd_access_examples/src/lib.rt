@@ -1,6 +1,6 @@
-//! More worked records of the definitions in `iofd_words`, as in `iofd_examples`: of access objects and their pins, of
-//! UNMAPs that are counted, of page tables that wait for leaving areas, of tables and of ranges. Each is the contract
-//! of a function that does nothing; nothing here runs.
+//! More worked records of the definitions, as in `iofd_examples`: of access objects and their pins, of UNMAPs that are
+//! counted, of page tables that wait for leaving areas, of tables and of ranges. Each is the contract of a function
+//! that does nothing; nothing here runs.
 #![tactic(auto)]
 
 mod accesses;

@@ -5,8 +5,8 @@ ghost use Rattle.iofd_access_examples.specs.RangeRecords as records;
 ghost use Rattle.iofd_examples.specs.ReadyWorld.{ready};
 ghost use Rattle.iofd_examples.specs.SecondScript.{shared};
 ghost use Rattle.iofd_examples.specs.Words.{ApplyIn, AreLawful, NoneIsLawful, file, id};
-ghost use Rattle.iofd_words.specs.Look.{AreUsableRanges};
-ghost use Rattle.iofd_words.specs.Run.{IsRunFrom, world_from};
+ghost use Rattle.iofd_steps.specs.Look.{AreUsableRanges};
+ghost use Rattle.iofd_steps.specs.Run.{IsRunFrom, world_from};
 ghost use Rattle.iofd_words.specs.View.{view};
 
 /// A list of no ranges takes those before it away. A span may not lie over a gap between two ranges, and may where they

@@ -3,7 +3,7 @@
 ghost use Rattle.std.specs.Prelude.{◌≡◌};
 ghost use Rattle.iofd_access_examples.specs.CountedUnmaps as unmaps;
 ghost use Rattle.iofd_examples.specs.Words.{NoneIsLawful};
-ghost use Rattle.iofd_words.specs.Run.{IsRunFrom, world_from};
+ghost use Rattle.iofd_steps.specs.Run.{IsRunFrom, world_from};
 
 /// The first makes 1 of none; the hundredth is told to call again, and the next one that this leads nowhere.
 pub fn unmaps_are_counted()

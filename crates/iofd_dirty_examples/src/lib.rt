@@ -7,7 +7,7 @@ ghost use Rattle.iofd_dirty_examples.specs.DirtyRecords as records;
 ghost use Rattle.iofd_dirty_examples.specs.DirtyScript as script;
 ghost use Rattle.iofd_examples.specs.Words.{ApplyIn, ApplyToQuestionsIn, AreAnsweredIn, AreLawful, AreRefusedIn};
 ghost use Rattle.iofd_examples.specs.Words.{NoneIsLawful};
-ghost use Rattle.iofd_words.specs.Run.{IsRun, IsRunFrom, world_from, world_of};
+ghost use Rattle.iofd_steps.specs.Run.{IsRun, IsRunFrom, world_from, world_of};
 
 /// Each piece of the script is a run from the world that those before it leave. The position is that of its first
 /// record.

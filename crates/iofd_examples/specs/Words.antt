@@ -3,12 +3,12 @@
 use Rattle.std.specs.Prelude.{◌≡◌, ℕ, Bool, Option, Some, None, List, [], ◌∷◌, filter, map}
 use Rattle.std.specs.declared.alloc.Global.{Global}
 use Rattle.iofd_words.specs.Accesses.{notices}
-use Rattle.iofd_words.specs.Answers.{write_reply}
+use Rattle.iofd_steps.specs.Answers.{write_reply}
 use Rattle.iofd_words.specs.Bounds.{Bounds}
-use Rattle.iofd_words.specs.Checks.{checks, refusal}
-use Rattle.iofd_words.specs.Look.{answers_in, notices_checks, query_checks, ranges_checks}
+use Rattle.iofd_refusals.specs.Checks.{checks, refusal}
+use Rattle.iofd_steps.specs.Look.{answers_in, notices_checks, query_checks, ranges_checks}
 use Rattle.iofd_words.specs.Policy.{outcomes}
-use Rattle.iofd_words.specs.Run.{Lawful}
+use Rattle.iofd_steps.specs.Run.{Lawful}
 use Rattle.iofd_words.specs.View.{view}
 use Rattle.iofd_words.specs.World.{World}
 use Rattle.iofd_words.specs.declared.event.Event.{Event}

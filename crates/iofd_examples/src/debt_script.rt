@@ -3,7 +3,7 @@
 ghost use Rattle.std.specs.Prelude.{◌≡◌};
 ghost use Rattle.iofd_examples.specs.DebtScript as script;
 ghost use Rattle.iofd_examples.specs.Words.{AreAnsweredIn, MayComeIn};
-ghost use Rattle.iofd_words.specs.Run.{IsRun, IsRunFrom, world_from, world_of};
+ghost use Rattle.iofd_steps.specs.Run.{IsRun, IsRunFrom, world_from, world_of};
 
 /// Each piece of the script is a run from the world that those before it leave. The position is that of its first
 /// record.

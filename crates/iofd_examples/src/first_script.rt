@@ -2,8 +2,8 @@
 
 ghost use Rattle.std.specs.Prelude.{◌≡◌, ◌∷◌, [], ◌++◌};
 ghost use Rattle.iofd_examples.specs.FirstScript as script;
-ghost use Rattle.iofd_words.specs.Run.{IsRun};
-ghost use Rattle.iofd_words.specs.Look.{answers_to};
+ghost use Rattle.iofd_steps.specs.Run.{IsRun};
+ghost use Rattle.iofd_steps.specs.Look.{answers_to};
 ghost use Rattle.iofd_words.specs.declared.fault.FaultReason.TheVariants.{ReadDenied, WriteDenied};
 
 /// The records of a script that was worked by hand are a run.

@@ -1,6 +1,5 @@
-//! Worked records of the definitions in `iofd_words`: scripts and tables of records with what each must come out as,
-//! worked by hand from the rules, and shown by computing. Each is the contract of a function that does nothing; nothing
-//! here runs.
+//! Worked records of the definitions: scripts and tables of records with what each must come out as, worked by hand
+//! from the rules, and shown by computing. Each is the contract of a function that does nothing; nothing here runs.
 #![tactic(auto)]
 
 mod choices;

@@ -3,7 +3,7 @@
 
 ghost use Rattle.std.specs.Prelude.{◌≡◌};
 ghost use Rattle.iofd_examples.specs.ReadyWorld as world;
-ghost use Rattle.iofd_words.specs.Run.{IsRun, IsRunFrom, world_from, world_of};
+ghost use Rattle.iofd_steps.specs.Run.{IsRun, IsRunFrom, world_from, world_of};
 
 /// The pieces of the run. The position is that of a piece's first record.
 pub fn ready_world_is_reached()

@@ -4,8 +4,8 @@ ghost use Rattle.std.specs.Prelude.{◌≡◌};
 ghost use Rattle.iofd_examples.specs.SecondLooks as looks;
 ghost use Rattle.iofd_examples.specs.SecondScript as script;
 ghost use Rattle.iofd_examples.specs.Words.{ApplyToRangesIn, AreAnsweredIn, MayComeIn, file, id};
-ghost use Rattle.iofd_words.specs.Look.{AreUsableRanges};
-ghost use Rattle.iofd_words.specs.Run.{IsRun, IsRunFrom, world_from, world_of};
+ghost use Rattle.iofd_steps.specs.Look.{AreUsableRanges};
+ghost use Rattle.iofd_steps.specs.Run.{IsRun, IsRunFrom, world_from, world_of};
 ghost use Rattle.iofd_words.specs.View.{view};
 
 /// Each piece of the second script is a run from the world that those before it leave. The position is that of its

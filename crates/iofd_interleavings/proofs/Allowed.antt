@@ -2,14 +2,14 @@
 use Rattle.std.proofs.Common.{map, ◌≡◌, ℕ, zero, suc, Bool, true, false, cond, Option, Some, None, is_none, List, []}
 use Rattle.std.proofs.Common.{◌∷◌, length, refl, sym, subst, arith, Contains}
 use Rattle.std.specs.List.{list_any}
-use Rattle.iofd_words.specs.Answers.{Answers, write_reply}
-use Rattle.iofd_words.specs.Checks.{access_checks, device_write_checks, refusal}
+use Rattle.iofd_steps.specs.Answers.{Answers, write_reply}
+use Rattle.iofd_refusals.specs.Checks.{access_checks, device_write_checks, refusal}
 use Rattle.iofd_words.specs.FirstTrue.{first_true}
 use Rattle.iofd_words.specs.Frames.{bytes_at}
-use Rattle.iofd_words.specs.Look.{answers_in, answers_to, cached_answers, read_answer}
+use Rattle.iofd_steps.specs.Look.{answers_in, answers_to, cached_answers, read_answer}
 use Rattle.iofd_words.specs.Pages.{offset_of}
 use Rattle.iofd_words.specs.Policy.{Passes, is_pass_at, outcomes}
-use Rattle.iofd_words.specs.Run.{IsAnswer, IsRun, Lawful, world_of}
+use Rattle.iofd_steps.specs.Run.{IsAnswer, IsRun, Lawful, world_of}
 use Rattle.iofd_words.specs.Settings.{Settings}
 use Rattle.iofd_words.specs.View.{view}
 use Rattle.iofd_words.specs.World.{World}

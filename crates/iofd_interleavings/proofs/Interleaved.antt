@@ -6,7 +6,7 @@ use Rattle.std.proofs.lemmas.Bool.Decides.{nat_tests}
 use Rattle.iofd_words.specs.Attachments.{attachment_of}
 use Rattle.iofd_words.specs.Pins.{ObjectPage, is_page, page_of_pin, pinned_frame}
 use Rattle.iofd_words.specs.Policy.{page_in}
-use Rattle.iofd_words.specs.Run.{IsRun, world_of}
+use Rattle.iofd_steps.specs.Run.{IsRun, world_of}
 use Rattle.iofd_words.specs.Settings.{Settings}
 use Rattle.iofd_words.specs.Tables.{with_tables}
 use Rattle.iofd_words.specs.World.{World, opening}

@@ -2,11 +2,11 @@
 use Rattle.std.proofs.Common.{◌≡◌, ℕ, Bool, true, false, not, eqb, cond, Option, Some, None, is_none, List, [], ◌∷◌}
 use Rattle.std.proofs.Common.{◌++◌, length, refl, sym, subst, ◌⊎◌, inl, inr, Contains}
 use Rattle.std.specs.List.{list_any}
-use Rattle.iofd_words.specs.Answers.{Answers, write_reply}
-use Rattle.iofd_words.specs.Checks.{access_checks, device_write_checks, refusal}
+use Rattle.iofd_steps.specs.Answers.{Answers, write_reply}
+use Rattle.iofd_refusals.specs.Checks.{access_checks, device_write_checks, refusal}
 use Rattle.iofd_words.specs.FirstTrue.{first_true}
 use Rattle.iofd_words.specs.Policy.{Passes, is_pass_at, outcomes}
-use Rattle.iofd_words.specs.Run.{IsAnswer, IsRun, Lawful, MovesFrames, world_of}
+use Rattle.iofd_steps.specs.Run.{IsAnswer, IsRun, Lawful, MovesFrames, world_of}
 use Rattle.iofd_words.specs.Settings.{Settings}
 use Rattle.iofd_words.specs.Turns.{is_turn_of}
 use Rattle.iofd_words.specs.View.{view}

@@ -3,12 +3,12 @@ use Rattle.std.proofs.Common.{◌≡◌, ◌<◌, ℕ, ◌+◌, Bool, true, fals
 use Rattle.std.proofs.Common.{◌∷◌, ◌++◌, length, refl, sym, ap, ◌∙◌, subst, arith, ◌⊎◌, inl, inr, ⊎_elim}
 use Rattle.std.specs.List.{list_any}
 use Rattle.std.proofs.lemmas.Bool.Decides.{nat_tests}
-use Rattle.iofd_words.specs.After.{changed, memory_object}
-use Rattle.iofd_words.specs.Answers.{Answers}
-use Rattle.iofd_words.specs.Checks.{refusal}
+use Rattle.iofd_steps.specs.After.{changed, memory_object}
+use Rattle.iofd_steps.specs.Answers.{Answers}
+use Rattle.iofd_refusals.specs.Checks.{refusal}
 use Rattle.iofd_words.specs.Frames.{is_free, is_reached}
 use Rattle.iofd_words.specs.Pins.{ObjectPage, is_page, page_of_pin, pinned_pages}
-use Rattle.iofd_words.specs.Run.{IsRun, world_of}
+use Rattle.iofd_steps.specs.Run.{IsRun, world_of}
 use Rattle.iofd_words.specs.Settings.{Settings}
 use Rattle.iofd_words.specs.Tables.{with_tables}
 use Rattle.iofd_words.specs.World.{World, opening}

@@ -7,11 +7,11 @@ use Rattle.std.proofs.lemmas.Bool.{eqb-true}
 use Rattle.std.proofs.lemmas.Bool.Decides.{nat_tests}
 use Rattle.iofd_words.specs.Areas.{area_at, areas_of}
 use Rattle.iofd_words.specs.Attachments.{is_attached_to}
-use Rattle.iofd_words.specs.Checks.{access_checks, is_interrupt}
+use Rattle.iofd_refusals.specs.Checks.{access_checks, is_interrupt}
 use Rattle.iofd_words.specs.Fault.{denied_by}
 use Rattle.iofd_words.specs.Files.{device_of}
 use Rattle.iofd_words.specs.FirstTrue.{first_true}
-use Rattle.iofd_words.specs.Look.{passes_in}
+use Rattle.iofd_steps.specs.Look.{passes_in}
 use Rattle.iofd_words.specs.Objects.{binding_of, is_hwpt_over}
 use Rattle.iofd_words.specs.Pages.{crosses, is_whole, page_of}
 use Rattle.iofd_words.specs.Pins.{pinned_frame}
@@ -19,7 +19,7 @@ use Rattle.iofd_words.specs.Policy.{Outcome, Passes, Denied, access_outcomes, at
 use Rattle.iofd_words.specs.Policy.{is_pass_at, page_in, passing, translated}
 use Rattle.iofd_words.specs.Ranges.{meets_some}
 use Rattle.iofd_words.specs.Rights.{has_right}
-use Rattle.iofd_words.specs.Run.{IsRun, world_of}
+use Rattle.iofd_steps.specs.Run.{IsRun, world_of}
 use Rattle.iofd_words.specs.Settings.{DeviceSettings, Settings}
 use Rattle.iofd_words.specs.Span.{holds, meets, size_of}
 use Rattle.iofd_words.specs.Usable.{interrupt_range, reserved_of, unusable}

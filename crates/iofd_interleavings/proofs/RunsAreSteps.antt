@@ -1,7 +1,7 @@
 -- A run is a list of steps, in which no device keeps anything.
 use Rattle.std.proofs.Common.{◌≡◌, ◌+◌, List, [], ◌∷◌, ◌++◌, length, map, refl, sym, ap, ◌∙◌, subst, arith}
 use Rattle.std.proofs.lemmas.List.{append-nil, append_assoc}
-use Rattle.iofd_words.specs.Run.{IsRun, Lawful, world_from, world_of}
+use Rattle.iofd_steps.specs.Run.{IsRun, Lawful, world_from, world_of}
 use Rattle.iofd_words.specs.Settings.{Settings}
 use Rattle.iofd_words.specs.World.{opening}
 use Rattle.iofd_words.specs.declared.record.Record.{Record}

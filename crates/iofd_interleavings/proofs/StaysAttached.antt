@@ -3,12 +3,12 @@ use Rattle.std.proofs.Common.{◌≡◌, ℕ, Bool, true, false, not, eqb, cond,
 use Rattle.std.proofs.Common.{ap, ◌∙◌, subst, arith, inl, inr}
 use Rattle.std.specs.List.{filter, list_any}
 use Rattle.std.proofs.lemmas.Bool.Decides.{nat_tests}
-use Rattle.iofd_words.specs.After.{attached, changed, copy_changes, detached}
-use Rattle.iofd_words.specs.After.{hwpt_changes, joined, made_hwpt, map_changes, settle, with_hwpt}
-use Rattle.iofd_words.specs.After.{without_areas}
-use Rattle.iofd_words.specs.Answers.{Answers}
+use Rattle.iofd_steps.specs.After.{attached, changed, copy_changes, detached}
+use Rattle.iofd_steps.specs.After.{hwpt_changes, joined, made_hwpt, map_changes, settle, with_hwpt}
+use Rattle.iofd_steps.specs.After.{without_areas}
+use Rattle.iofd_steps.specs.Answers.{Answers}
 use Rattle.iofd_words.specs.Areas.{all_paid, areas_of, is_of}
-use Rattle.iofd_words.specs.Checks.{is_used, refusal}
+use Rattle.iofd_refusals.specs.Checks.{is_used, refusal}
 use Rattle.iofd_words.specs.Copies.{source_in}
 use Rattle.iofd_words.specs.Files.{user_of}
 use Rattle.iofd_words.specs.Objects.{automatic_hwpt, binding_of, has_hwpt, is_bound_as, is_bound_device, kind_of}

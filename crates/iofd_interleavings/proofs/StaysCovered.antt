@@ -3,14 +3,14 @@ use Rattle.std.proofs.Common.{◌≡◌, ℕ, Bool, true, false, not, eqb, cond,
 use Rattle.std.proofs.Common.{length, refl, sym, ap, ◌∙◌, subst, arith, ◌+◌, ltb}
 use Rattle.std.specs.List.{filter}
 use Rattle.std.proofs.lemmas.Bool.Decides.{nat_tests}
-use Rattle.iofd_words.specs.After.{attached, changed, copy_changes, detached}
-use Rattle.iofd_words.specs.After.{hwpt_changes, joined, map_changes, mapped_area, settle}
-use Rattle.iofd_words.specs.After.{without_areas}
-use Rattle.iofd_words.specs.Answers.{Answers, waits}
+use Rattle.iofd_steps.specs.After.{attached, changed, copy_changes, detached}
+use Rattle.iofd_steps.specs.After.{hwpt_changes, joined, map_changes, mapped_area, settle}
+use Rattle.iofd_steps.specs.After.{without_areas}
+use Rattle.iofd_steps.specs.Answers.{Answers, waits}
 use Rattle.iofd_words.specs.Areas.{all_paid, areas_of, is_of, is_touched, leaving, owed_by, paid, touched}
 use Rattle.iofd_words.specs.Areas.{with_area, with_phase, tried, touched_tries, with_tries, is_held_back}
 use Rattle.iofd_words.specs.Attachments.{devices_of, is_attached_to}
-use Rattle.iofd_words.specs.Checks.{refusal}
+use Rattle.iofd_refusals.specs.Checks.{refusal}
 use Rattle.iofd_words.specs.Copies.{placed_as, source_in}
 use Rattle.iofd_words.specs.DeviceSet.{has_device}
 use Rattle.iofd_words.specs.Files.{user_of}

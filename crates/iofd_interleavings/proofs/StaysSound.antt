@@ -8,7 +8,7 @@ use Rattle.iofd_words.specs.Areas.{area_at, areas_of, is_of}
 use Rattle.iofd_words.specs.Attachments.{ioas_of, ioas_of_attachment}
 use Rattle.iofd_words.specs.Pins.{ObjectPage, frame_now, pinned_frame}
 use Rattle.iofd_words.specs.Policy.{page_in}
-use Rattle.iofd_words.specs.Run.{IsRun, world_of}
+use Rattle.iofd_steps.specs.Run.{IsRun, world_of}
 use Rattle.iofd_words.specs.Settings.{Settings}
 use Rattle.iofd_words.specs.Tables.{with_tables}
 use Rattle.iofd_words.specs.Turns.{is_turn_of, turns_of}

@@ -7,7 +7,7 @@ use Rattle.iofd_words.specs.Attachments.{attachment_of, ioas_of_attachment}
 use Rattle.iofd_words.specs.Pages.{page_of}
 use Rattle.iofd_words.specs.Pins.{ObjectPage, pinned_frame}
 use Rattle.iofd_words.specs.Policy.{page_in}
-use Rattle.iofd_words.specs.Run.{IsRun, world_of}
+use Rattle.iofd_steps.specs.Run.{IsRun, world_of}
 use Rattle.iofd_words.specs.Settings.{Settings}
 use Rattle.iofd_words.specs.Span.{holds}
 use Rattle.iofd_words.specs.View.{view}

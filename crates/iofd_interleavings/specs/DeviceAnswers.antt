@@ -1,10 +1,10 @@
 -- What devices are answered at a step, by the server or out of their caches, and which answers the policy allows.
 use Rattle.std.specs.Prelude.{ℕ, Option, Some, None, List, [], ◌∷◌, length, map, Contains}
-use Rattle.iofd_words.specs.Answers.{write_reply}
-use Rattle.iofd_words.specs.Checks.{access_checks}
+use Rattle.iofd_steps.specs.Answers.{write_reply}
+use Rattle.iofd_refusals.specs.Checks.{access_checks}
 use Rattle.iofd_words.specs.FirstTrue.{first_true}
 use Rattle.iofd_words.specs.Frames.{bytes_at}
-use Rattle.iofd_words.specs.Look.{read_answer}
+use Rattle.iofd_steps.specs.Look.{read_answer}
 use Rattle.iofd_words.specs.Pages.{offset_of}
 use Rattle.iofd_words.specs.Policy.{outcomes}
 use Rattle.iofd_words.specs.View.{view}

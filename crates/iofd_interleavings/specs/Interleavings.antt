@@ -1,8 +1,8 @@
 -- What holds of every interleaving of a server's callers and of devices that cache translations, whoever makes it.
 use Rattle.std.specs.Prelude.{◌≡◌, ℕ, Some, None, List, [], ◌∷◌, ◌++◌, IsTrue}
 use Rattle.iofd_words.specs.Attachments.{attachment_of}
-use Rattle.iofd_words.specs.Look.{passes_in}
-use Rattle.iofd_words.specs.Run.{IsRun, world_of}
+use Rattle.iofd_steps.specs.Look.{passes_in}
+use Rattle.iofd_steps.specs.Run.{IsRun, world_of}
 use Rattle.iofd_words.specs.Settings.{Settings}
 use Rattle.iofd_words.specs.Turns.{turns_of}
 use Rattle.iofd_words.specs.View.{view}

@@ -1,10 +1,10 @@
 -- The world with a cache for each device, and its steps: records, looks, and what devices do with their caches.
 use Rattle.std.specs.Prelude.{◌≡◌, ℕ, false, ◌==◌, not, List, [], ◌∷◌, ◌++◌, length, filter, Contains, IsTrue}
 use Rattle.std.specs.Prelude.{if◌then◌else◌}
-use Rattle.iofd_words.specs.Look.{answers_to}
+use Rattle.iofd_steps.specs.Look.{answers_to}
 use Rattle.iofd_words.specs.Pages.{crosses, page_of}
 use Rattle.iofd_words.specs.Rights.{has_right}
-use Rattle.iofd_words.specs.Run.{Lawful, world_of}
+use Rattle.iofd_steps.specs.Run.{Lawful, world_of}
 use Rattle.iofd_words.specs.Settings.{Settings}
 use Rattle.iofd_words.specs.Turns.{is_turn_of}
 use Rattle.iofd_words.specs.World.{World}

@@ -1,10 +1,9 @@
 //! The law of every interleaving: what holds whatever records callers make, one after another, while devices keep
-//! translations and answer accesses by them. The definitions of `iofd_words` with a cache for each device; nothing here
-//! runs.
+//! translations and answer accesses by them. The definitions with a cache for each device; nothing here runs.
 #![tactic(auto)]
 
 ghost use Rattle.std.specs.Prelude.{◌≡◌, List, map};
-ghost use Rattle.iofd_words.specs.Run.{IsRun};
+ghost use Rattle.iofd_steps.specs.Run.{IsRun};
 ghost use Rattle.iofd_words.specs.Settings.{Settings};
 ghost use Rattle.iofd_words.specs.declared.record.Record.{Record};
 ghost use Rattle.iofd_interleavings.specs.Interleavings.{EveryInterleaving};

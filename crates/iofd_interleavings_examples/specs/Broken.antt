@@ -3,7 +3,7 @@
 -- attached, and it is device 1 whose cache goes wrong.
 use Rattle.std.specs.Prelude.{◌≡◌, false, List, [], ◌∷◌, ◌++◌, map, Contains}
 use Rattle.std.specs.declared.alloc.Global.{Global}
-use Rattle.iofd_words.specs.Look.{passes_in}
+use Rattle.iofd_steps.specs.Look.{passes_in}
 use Rattle.iofd_words.specs.World.{World}
 use Rattle.iofd_words.specs.declared.fault.AccessKind.TheVariants.{Read}
 use Rattle.iofd_words.specs.declared.rows.Phase.TheVariants.{Live}

@@ -3,8 +3,8 @@
 ghost use Rattle.std.specs.Prelude.{◌≡◌, true, None, List, [], ◌∷◌, ◌++◌, length, IsTrue};
 ghost use Rattle.std.specs.declared.alloc.Global.{Global};
 ghost use Rattle.iofd_words.specs.Areas.{is_waiting};
-ghost use Rattle.iofd_words.specs.Checks.{refusal};
-ghost use Rattle.iofd_words.specs.Run.{Lawful};
+ghost use Rattle.iofd_refusals.specs.Checks.{refusal};
+ghost use Rattle.iofd_steps.specs.Run.{Lawful};
 ghost use Rattle.iofd_words.specs.declared.reply.Reply.TheVariants as reply;
 ghost use Rattle.iofd_words.specs.declared.rows.Phase.TheVariants.{Live, Leaving};
 ghost use Rattle.iofd_examples.specs.Words.{answers_frame, device, file, flush, step, unmap_in, user_map};

@@ -1,7 +1,7 @@
 //! What counts as a turn, what a walk finds, which entries are sound, and which frames two may not have.
 
 ghost use Rattle.std.specs.Prelude.{◌≡◌, true, false, None, Some, [], ◌∷◌};
-ghost use Rattle.iofd_words.specs.Look.{answers_to, passes_in};
+ghost use Rattle.iofd_steps.specs.Look.{answers_to, passes_in};
 ghost use Rattle.iofd_words.specs.Turns.{turns_of};
 ghost use Rattle.iofd_words.specs.declared.fault.AccessKind.TheVariants.{Read, Write};
 ghost use Rattle.iofd_words.specs.declared.query.Answer.TheVariants as answer;

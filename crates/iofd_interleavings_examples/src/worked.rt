@@ -1,7 +1,7 @@
 //! Steps that may be made.
 
 ghost use Rattle.std.specs.Prelude.{◌≡◌, Some, List, [], ◌∷◌, map};
-ghost use Rattle.iofd_words.specs.Run.{world_of};
+ghost use Rattle.iofd_steps.specs.Run.{world_of};
 ghost use Rattle.iofd_words.specs.declared.query.Answer.TheVariants as answer;
 ghost use Rattle.iofd_words.specs.declared.rows.Phase.TheVariants.{Live};
 ghost use Rattle.iofd_examples.specs.Words.{answers_id, attach, device, device_write, frame, iova, moving, passed};

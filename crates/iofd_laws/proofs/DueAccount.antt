@@ -6,23 +6,23 @@ use Rattle.std.specs.List.{count_by, filter, find, list_any, range_with_len}
 use Rattle.std.proofs.lemmas.Bool.Decides.{nat_tests}
 use Rattle.std.proofs.lemmas.Bool.{not-false}
 use Rattle.std.proofs.lemmas.List.FromFn.{length-map-range_with_len}
-use Rattle.iofd_words.specs.After.{attach_changes, attached, changed, copy_changes, hwpt_changes, map_changes}
-use Rattle.iofd_words.specs.After.{mapped_area, memory_object, settle, with_hwpt}
-use Rattle.iofd_words.specs.Answers.{Answers, IsHwptOf, IsHwptFor}
+use Rattle.iofd_steps.specs.After.{attach_changes, attached, changed, copy_changes, hwpt_changes, map_changes}
+use Rattle.iofd_steps.specs.After.{mapped_area, memory_object, settle, with_hwpt}
+use Rattle.iofd_steps.specs.Answers.{Answers, IsHwptOf, IsHwptFor}
 use Rattle.iofd_words.specs.Areas.{all_paid, areas_of, is_of, with_area, paid}
 use Rattle.iofd_words.specs.Attachments.{attachment_of, with_attachment}
-use Rattle.iofd_words.specs.Checks.{allow_iovas_checks, attach_checks, bind_checks, bound_attach_checks, checks}
-use Rattle.iofd_words.specs.Checks.{close_checks, copy_checks, destroy_checks, detach_checks, device_write_checks}
-use Rattle.iofd_words.specs.Checks.{flush_checks, has_pages, hwpt_alloc_checks, ioas_alloc_checks, lacks_attached_page}
-use Rattle.iofd_words.specs.Checks.{lacks_copied_page, lacks_mapped_page, map_checks, newly_copied, newly_pinned}
-use Rattle.iofd_words.specs.Checks.{passes_limit, passes_limit_attached, passes_limit_copied, passes_limit_mapped}
-use Rattle.iofd_words.specs.Checks.{refusal, target_checks, unbind_checks, unmap_checks, user_map_checks}
-use Rattle.iofd_words.specs.Checks.{user_unmap_checks, user_write_checks}
-use Rattle.iofd_words.specs.Checks.{access_create_checks, access_attach_checks, access_detach_checks}
+use Rattle.iofd_refusals.specs.Checks.{allow_iovas_checks, attach_checks, bind_checks, bound_attach_checks, checks}
+use Rattle.iofd_refusals.specs.Checks.{close_checks, copy_checks, destroy_checks, detach_checks, device_write_checks}
+use Rattle.iofd_refusals.specs.Checks.{flush_checks, hwpt_alloc_checks, ioas_alloc_checks, lacks_attached_page}
+use Rattle.iofd_refusals.specs.Checks.{lacks_copied_page, lacks_mapped_page, map_checks, newly_copied, newly_pinned}
+use Rattle.iofd_refusals.specs.Checks.{passes_limit, passes_limit_attached, passes_limit_copied, passes_limit_mapped}
+use Rattle.iofd_refusals.specs.Checks.{refusal, target_checks, unbind_checks, unmap_checks, user_map_checks}
+use Rattle.iofd_refusals.specs.Checks.{user_unmap_checks, user_write_checks}
+use Rattle.iofd_refusals.specs.Checks.{access_create_checks, access_attach_checks, access_detach_checks}
 use Rattle.iofd_words.specs.Copies.{placed_as}
 use Rattle.iofd_words.specs.Files.{device_of, is_open, user_of}
 use Rattle.iofd_words.specs.FirstTrue.{first_true}
-use Rattle.iofd_words.specs.Frames.{frame_at}
+use Rattle.iofd_words.specs.Frames.{frame_at, has_pages}
 use Rattle.iofd_words.specs.Objects.{automatic_hwpt, binding_of, device_in, device_under, has_hwpt, is_automatic_over}
 use Rattle.iofd_words.specs.Objects.{is_hwpt_over, is_object, kind_of, settings_under, is_fresh, with_object}
 use Rattle.iofd_words.specs.Pages.{page_of}
@@ -80,8 +80,8 @@ use Rattle.iofd_runs.proofs.Accessed.{accessed_grows}
 use Rattle.iofd_runs.proofs.Accessed.{EachHeld, accessed_objects, accessed_phases, each_held, held_phases}
 use Rattle.iofd_runs.proofs.HoldersStay.{more_holders}
 use Rattle.iofd_laws.proofs.PinsDue.{pin_over}
-use Rattle.iofd_words.specs.Checks.{access_unpin_checks, access_write_checks}
-use Rattle.iofd_words.specs.Checks.{dirty_checks, dirty_enable_checks}
+use Rattle.iofd_refusals.specs.Checks.{access_unpin_checks, access_write_checks}
+use Rattle.iofd_refusals.specs.Checks.{dirty_checks, dirty_enable_checks}
 use Rattle.iofd_laws.proofs.PinsGained.{StayPinned, account_row, all_held, count_all, flipped, gets_pin}
 use Rattle.iofd_laws.proofs.PinsGained.{is_account, is_over, keeps_pin, never, of_owner, passed}
 

@@ -4,17 +4,17 @@ use Rattle.std.proofs.Common.{is_none, is_some, Option, Some, None, List, [], â—
 use Rattle.std.proofs.Common.{arith, inl}
 use Rattle.std.specs.List.{count_by, filter, list_all, list_any, range_with_len}
 use Rattle.std.proofs.lemmas.Bool.Decides.{nat_tests}
-use Rattle.iofd_words.specs.After.{attached, changed, copy_changes, hwpt_changes, map_changes, settle}
-use Rattle.iofd_words.specs.Answers.{Answers, IsHwptFor, IsMappedAt}
-use Rattle.iofd_words.specs.Checks.{allow_iovas_checks, attach_checks, bind_checks, bound_attach_checks, checks}
-use Rattle.iofd_words.specs.Checks.{close_checks, copy_checks, destroy_checks, detach_checks, device_write_checks}
-use Rattle.iofd_words.specs.Checks.{flush_checks, hwpt_alloc_checks, ioas_alloc_checks, lacks_attached_frames}
-use Rattle.iofd_words.specs.Checks.{lacks_mapped_frames, lacks_new_tables, map_checks, mapped_start, refusal}
-use Rattle.iofd_words.specs.Checks.{tables_to_map, unbind_checks, unmap_checks, user_map_checks}
-use Rattle.iofd_words.specs.Checks.{user_unmap_checks, user_write_checks}
-use Rattle.iofd_words.specs.Checks.{access_create_checks, access_attach_checks, access_detach_checks}
-use Rattle.iofd_words.specs.Checks.{access_pin_checks, access_unpin_checks, access_write_checks, pin_checks_in}
-use Rattle.iofd_words.specs.Checks.{dirty_checks, dirty_enable_checks}
+use Rattle.iofd_steps.specs.After.{attached, changed, copy_changes, hwpt_changes, map_changes, settle}
+use Rattle.iofd_steps.specs.Answers.{Answers, IsHwptFor, IsMappedAt}
+use Rattle.iofd_refusals.specs.Checks.{allow_iovas_checks, attach_checks, bind_checks, bound_attach_checks, checks}
+use Rattle.iofd_refusals.specs.Checks.{close_checks, copy_checks, destroy_checks, detach_checks, device_write_checks}
+use Rattle.iofd_refusals.specs.Checks.{flush_checks, hwpt_alloc_checks, ioas_alloc_checks, lacks_attached_frames}
+use Rattle.iofd_refusals.specs.Checks.{lacks_mapped_frames, lacks_new_tables, map_checks, mapped_start, refusal}
+use Rattle.iofd_refusals.specs.Checks.{tables_to_map, unbind_checks, unmap_checks, user_map_checks}
+use Rattle.iofd_refusals.specs.Checks.{user_unmap_checks, user_write_checks}
+use Rattle.iofd_refusals.specs.Checks.{access_create_checks, access_attach_checks, access_detach_checks}
+use Rattle.iofd_refusals.specs.Checks.{access_pin_checks, access_unpin_checks, access_write_checks, pin_checks_in}
+use Rattle.iofd_refusals.specs.Checks.{dirty_checks, dirty_enable_checks}
 use Rattle.iofd_words.specs.Objects.{access_ioas_of}
 use Rattle.iofd_words.specs.Copies.{placed_as}
 use Rattle.iofd_words.specs.Files.{device_of, is_open, user_of}

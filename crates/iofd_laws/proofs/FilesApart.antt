@@ -5,15 +5,15 @@ use Rattle.std.specs.Prelude.{is_none}
 use Rattle.std.specs.List.{filter, list_all, list_any}
 use Rattle.std.proofs.lemmas.Bool.{eqb-true, true≢false}
 use Rattle.std.proofs.lemmas.Bool.Decides.{nat_tests}
-use Rattle.iofd_words.specs.After.{changed, copy_changes, map_changes, hwpt_changes}
-use Rattle.iofd_words.specs.After.{settle, without_areas, attached, detached, joined, goes_with, tracked_without}
-use Rattle.iofd_words.specs.After.{mapped_area, with_hwpt}
+use Rattle.iofd_steps.specs.After.{changed, copy_changes, map_changes, hwpt_changes}
+use Rattle.iofd_steps.specs.After.{settle, without_areas, attached, detached, joined, goes_with, tracked_without}
+use Rattle.iofd_steps.specs.After.{mapped_area, with_hwpt}
 use Rattle.iofd_words.specs.Allowed.{AllowedRanges, with_allowed, without_allowed}
 use Rattle.iofd_words.specs.Areas.{all_paid, lies_before, owed_by, paid, is_touched, leaving, with_area, with_phase}
 use Rattle.iofd_words.specs.Areas.{tried, touched_tries}
 use Rattle.iofd_words.specs.Attachments.{attachment_of, devices_of, has_lower_device, with_attachment}
 use Rattle.iofd_words.specs.Attachments.{without_attachment}
-use Rattle.iofd_words.specs.Checks.{refusal}
+use Rattle.iofd_refusals.specs.Checks.{refusal}
 use Rattle.iofd_words.specs.Copies.{placed_as}
 use Rattle.iofd_words.specs.DeviceSet.{without_device}
 use Rattle.iofd_words.specs.Dirty.{TrackedTable, is_tracked_as, marked_by, reported_span, with_mark}
@@ -24,7 +24,7 @@ use Rattle.iofd_words.specs.Pages.{page_of}
 use Rattle.iofd_laws.specs.Laws.{FileRows, IsOfAnother, file_of_device, rows_of}
 use Rattle.iofd_words.specs.Objects.{automatic_hwpt, binding_of, comes_before, objects_of, settings_under}
 use Rattle.iofd_words.specs.Objects.{with_object, with_access, is_access}
-use Rattle.iofd_words.specs.Run.{after, after_answer}
+use Rattle.iofd_steps.specs.Run.{after, after_answer}
 use Rattle.iofd_words.specs.Tables.{with_tables}
 use Rattle.iofd_words.specs.View.{view}
 use Rattle.iofd_words.specs.World.{World}

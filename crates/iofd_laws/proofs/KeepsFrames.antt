@@ -1,10 +1,10 @@
 -- A page that stays pinned keeps its frame, and one that becomes pinned takes the frame that its user has there.
 use Rattle.std.proofs.Common.{ℕ, Bool, true, false, Option, Some, None, refl, sym, subst, List, ap, ◌∙◌}
 use Rattle.std.specs.List.{list_any}
-use Rattle.iofd_words.specs.After.{changed, settle}
-use Rattle.iofd_words.specs.Checks.{refusal}
+use Rattle.iofd_steps.specs.After.{changed, settle}
+use Rattle.iofd_refusals.specs.Checks.{refusal}
 use Rattle.iofd_words.specs.Pins.{ObjectPage, frame_now, is_page, pinned_frame, pinned_pages}
-use Rattle.iofd_words.specs.Run.{after, after_answer}
+use Rattle.iofd_steps.specs.Run.{after, after_answer}
 use Rattle.iofd_words.specs.Tables.{with_tables}
 use Rattle.iofd_words.specs.World.{World}
 use Rattle.iofd_words.specs.declared.numbers.FrameNo.{FrameNo}

@@ -6,14 +6,15 @@ use Rattle.std.specs.List.{count_by, filter, list_any}
 use Rattle.std.proofs.lemmas.Bool.Decides.{nat_tests}
 use Rattle.std.proofs.lemmas.List.FromFn.{length-map-range_with_len}
 use Rattle.std.proofs.lemmas.List.Sums.{count_by-le-length}
-use Rattle.iofd_words.specs.After.{changed, copy_changes, map_changes, hwpt_changes}
-use Rattle.iofd_words.specs.After.{settle, without_areas, attached, detached, joined, goes_with}
-use Rattle.iofd_words.specs.After.{mapped_area, memory_object, with_hwpt}
+use Rattle.iofd_steps.specs.After.{changed, copy_changes, map_changes, hwpt_changes}
+use Rattle.iofd_steps.specs.After.{settle, without_areas, attached, detached, joined, goes_with}
+use Rattle.iofd_steps.specs.After.{mapped_area, memory_object, with_hwpt}
 use Rattle.iofd_words.specs.Allowed.{AllowedRanges, without_allowed}
-use Rattle.iofd_words.specs.Answers.{Answers}
+use Rattle.iofd_steps.specs.Answers.{Answers}
 use Rattle.iofd_words.specs.Areas.{all_paid, areas_of, is_of, is_touched, with_area}
 use Rattle.iofd_words.specs.Attachments.{with_attachment, without_attachment}
-use Rattle.iofd_words.specs.Checks.{copy_checks, map_checks, newly_pinned, passes_limit, passes_limit_attached, refusal}
+use Rattle.iofd_refusals.specs.Checks.{copy_checks, map_checks, newly_pinned, passes_limit, passes_limit_attached}
+use Rattle.iofd_refusals.specs.Checks.{refusal}
 use Rattle.iofd_words.specs.Copies.{placed_as}
 use Rattle.iofd_words.specs.Files.{limit_of, user_of}
 use Rattle.iofd_words.specs.FirstTrue.{first_true}

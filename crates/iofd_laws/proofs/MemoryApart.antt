@@ -4,12 +4,12 @@ use Rattle.std.proofs.Common.{Some, None, List, [], ◌∷◌, ◌++◌, refl, s
 use Rattle.std.specs.List.{filter, find, list_all, list_any}
 use Rattle.std.proofs.lemmas.Bool.{eqb-true}
 use Rattle.std.proofs.lemmas.Bool.Decides.{nat_tests}
-use Rattle.iofd_words.specs.After.{changed}
-use Rattle.iofd_words.specs.Checks.{refusal}
+use Rattle.iofd_steps.specs.After.{changed}
+use Rattle.iofd_refusals.specs.Checks.{refusal}
 use Rattle.iofd_words.specs.Objects.{has_hwpt, is_hwpt_over, objects_of}
 use Rattle.iofd_words.specs.Pins.{ObjectPage, is_page, is_translated, pinned_frame, pinned_pages}
 use Rattle.iofd_words.specs.Pins.{is_accessed, is_pinned}
-use Rattle.iofd_words.specs.Run.{after, after_answer}
+use Rattle.iofd_steps.specs.Run.{after, after_answer}
 use Rattle.iofd_words.specs.Span.{size_of}
 use Rattle.iofd_words.specs.Tables.{with_tables}
 use Rattle.iofd_words.specs.World.{World}

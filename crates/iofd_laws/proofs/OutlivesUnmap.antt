@@ -3,13 +3,13 @@ use Rattle.std.proofs.Common.{◌≡◌, ℕ, Bool, true, false, cond, ◌&&◌,
 use Rattle.std.proofs.Common.{◌∷◌, map, Contains, refl, ap, sym, ◌∙◌, subst, arith, inl, inr}
 use Rattle.std.specs.List.{filter, list_any}
 use Rattle.std.proofs.lemmas.Bool.Decides.{nat_tests}
-use Rattle.iofd_words.specs.After.{changed, settle, without_areas}
+use Rattle.iofd_steps.specs.After.{changed, settle, without_areas}
 use Rattle.iofd_words.specs.Areas.{is_touched, leaving, with_phase, tried, touched_tries, with_leaving}
 use Rattle.iofd_words.specs.Attachments.{devices_of}
-use Rattle.iofd_words.specs.Checks.{refusal}
+use Rattle.iofd_refusals.specs.Checks.{refusal}
 use Rattle.iofd_words.specs.Objects.{has_hwpt}
 use Rattle.iofd_words.specs.Pins.{ObjectPage, frame_now, is_page, is_translated, pinned_frame, pinned_pages, is_pinned}
-use Rattle.iofd_words.specs.Run.{after, after_answer}
+use Rattle.iofd_steps.specs.Run.{after, after_answer}
 use Rattle.iofd_words.specs.Tables.{with_tables}
 use Rattle.iofd_words.specs.World.{World}
 use Rattle.iofd_words.specs.declared.event.Event.{Event}

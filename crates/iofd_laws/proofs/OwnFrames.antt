@@ -3,13 +3,13 @@ use Rattle.std.proofs.Common.{◌≡◌, ℕ, zero, suc, ◌<◌, Bool, true, fa
 use Rattle.std.proofs.Common.{[], ◌∷◌, ◌++◌, map, Contains, refl, sym, ◌∙◌, subst, arith, IsTrue, inl, inr}
 use Rattle.std.specs.List.{filter, list_any}
 use Rattle.std.proofs.lemmas.Bool.Decides.{nat_tests}
-use Rattle.iofd_words.specs.After.{changed}
-use Rattle.iofd_words.specs.Answers.{Answers, write_reply}
-use Rattle.iofd_words.specs.Checks.{refusal}
+use Rattle.iofd_steps.specs.After.{changed}
+use Rattle.iofd_steps.specs.Answers.{Answers, write_reply}
+use Rattle.iofd_refusals.specs.Checks.{refusal}
 use Rattle.iofd_words.specs.Frames.{is_free, is_reached}
 use Rattle.iofd_laws.specs.Laws.{have_own_frames, WasFree}
 use Rattle.iofd_words.specs.Policy.{Outcome, Passes, Denied, outcomes}
-use Rattle.iofd_words.specs.Run.{IsAnswer, Lawful, MovesFrames}
+use Rattle.iofd_steps.specs.Run.{IsAnswer, Lawful, MovesFrames}
 use Rattle.iofd_words.specs.World.{World}
 use Rattle.iofd_words.specs.declared.event.Event.{Event}
 use Rattle.iofd_words.specs.declared.event.Event.TheVariants as event

@@ -6,9 +6,9 @@ use Rattle.std.specs.List.{count_by, filter, flat_map, list_any}
 use Rattle.std.proofs.lemmas.Bool.Decides.{nat_tests}
 use Rattle.std.proofs.lemmas.Bool.{eqb-true}
 use Rattle.std.proofs.lemmas.List.Sums.{length-filter}
-use Rattle.iofd_words.specs.After.{settle, without_areas}
+use Rattle.iofd_steps.specs.After.{settle, without_areas}
 use Rattle.iofd_words.specs.Allowed.{AllowedRanges}
-use Rattle.iofd_words.specs.Checks.{passes_limit}
+use Rattle.iofd_refusals.specs.Checks.{passes_limit}
 use Rattle.iofd_words.specs.Files.{limit_of, user_of}
 use Rattle.iofd_words.specs.Objects.{has_hwpt}
 use Rattle.iofd_words.specs.Pins.{ObjectPage, is_page, pages_of, pinned_frame, unpinned_pages}

@@ -3,7 +3,7 @@ use Rattle.std.proofs.Common.{◌≡◌, ℕ, ◌+◌, ◌≤◌, Bool, true, fa
 use Rattle.std.proofs.Common.{is_some, Option, Some, None, List, [], ◌∷◌, ◌++◌, length, refl, sym, subst, ◌∙◌}
 use Rattle.std.proofs.Common.{arith}
 use Rattle.std.specs.List.{count_by, flat_map, list_any}
-use Rattle.iofd_words.specs.After.{settle}
+use Rattle.iofd_steps.specs.After.{settle}
 use Rattle.iofd_words.specs.Areas.{areas_of}
 use Rattle.iofd_words.specs.Files.{user_of}
 use Rattle.iofd_words.specs.FirstTrue.{first_true}
@@ -34,7 +34,7 @@ use Rattle.iofd_laws.proofs.PinsGained.{is_over, keeps_pin, never, of_owner, pag
 use Rattle.iofd_laws.proofs.PinsHeld.{added_count, is_added, pinned_world}
 use Rattle.iofd_runs.proofs.AccessPins.{accessed_pins_more, is_accessed_by, spanned}
 use Rattle.iofd_words.specs.Accesses.{is_spanned, lacks_accessed_page, newly_accessed, pin_of, pinned_span}
-use Rattle.iofd_words.specs.Checks.{access_pin_checks, passes_limit_accessed, pin_checks_in}
+use Rattle.iofd_refusals.specs.Checks.{access_pin_checks, passes_limit_accessed, pin_checks_in}
 use Rattle.iofd_words.specs.Objects.{access_ioas_of}
 use Rattle.iofd_words.specs.declared.event.PinRequest.{PinRequest}
 use Rattle.iofd_words.specs.declared.rows.AccessPin.{AccessPin}

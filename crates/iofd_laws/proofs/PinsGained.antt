@@ -5,8 +5,8 @@ use Rattle.std.proofs.Common.{arith, inl, inr}
 use Rattle.std.specs.List.{count_by, filter, flat_map, list_any}
 use Rattle.std.proofs.lemmas.Bool.Decides.{nat_tests}
 use Rattle.std.proofs.lemmas.List.Sums.{length-filter}
-use Rattle.iofd_words.specs.After.{settle}
-use Rattle.iofd_words.specs.Checks.{passes_limit}
+use Rattle.iofd_steps.specs.After.{settle}
+use Rattle.iofd_refusals.specs.Checks.{passes_limit}
 use Rattle.iofd_words.specs.Files.{limit_of, user_of}
 use Rattle.iofd_words.specs.FirstTrue.{first_true}
 use Rattle.iofd_words.specs.Pins.{ObjectPage, frame_now, is_page, pages_of, pinned_frame}

@@ -4,7 +4,7 @@ use Rattle.std.proofs.Common.{length, refl, ap, sym, subst, Some, ◌∙◌, ari
 use Rattle.std.specs.List.{count_by, filter, flat_map, list_all, list_any}
 use Rattle.std.proofs.lemmas.List.Sums.{length-filter}
 use Rattle.iofd_words.specs.Accesses.{is_spanned, newly_accessed, pin_of, pinned_span}
-use Rattle.iofd_words.specs.After.{settle}
+use Rattle.iofd_steps.specs.After.{settle}
 use Rattle.iofd_words.specs.Areas.{areas_of}
 use Rattle.iofd_words.specs.Files.{limit_of}
 use Rattle.iofd_words.specs.Pins.{ObjectPage, is_page, pages_of, pinned_frame, span_of_page, unpinned_pages}

@@ -16,12 +16,12 @@ use Rattle.iofd_runs.proofs.NotRefused.{alloc_passed, attach_passed, bind_passed
 use Rattle.iofd_runs.proofs.NotRefused.{target_passed, user_map_passed, access_create_passed}
 use Rattle.iofd_runs.proofs.StillTabled.{in_kept}
 use Rattle.iofd_runs.proofs.PinnedAccess.{some_outcome}
-use Rattle.iofd_words.specs.Answers.{Answers, IsHwptFor, IsHwptOf, IsMappedAt, IsTarget, UnmapAnswers, write_reply}
+use Rattle.iofd_steps.specs.Answers.{Answers, IsHwptFor, IsHwptOf, IsMappedAt, IsTarget, UnmapAnswers, write_reply}
 use Rattle.iofd_words.specs.Dirty.{reported_words}
-use Rattle.iofd_words.specs.Answers.{waits}
+use Rattle.iofd_steps.specs.Answers.{waits}
 use Rattle.iofd_words.specs.Areas.{touched_bytes, pending_errno, touched_tries}
-use Rattle.iofd_words.specs.Checks.{attach_checks, choices, has_choice, lacks_choice, lacks_room_for_hwpt, least}
-use Rattle.iofd_words.specs.Checks.{mapped_start, may_choose, refusal, taken_spans}
+use Rattle.iofd_refusals.specs.Checks.{attach_checks, choices, has_choice, lacks_choice, lacks_room_for_hwpt, least}
+use Rattle.iofd_refusals.specs.Checks.{mapped_start, may_choose, refusal, taken_spans}
 use Rattle.iofd_words.specs.Copies.{placed_as}
 use Rattle.iofd_words.specs.Files.{device_of}
 use Rattle.iofd_words.specs.FirstTrue.{first_true}

@@ -4,18 +4,19 @@ use Rattle.std.proofs.Common.{◌≡◌, ℕ, ◌+◌, ◌<◌, ◌≤◌, Bool,
 use Rattle.std.proofs.Common.{Option, Some, None, List, [], length, refl, ap, sym, ◌∙◌, subst, arith}
 use Rattle.std.specs.List.{list_all, list_any}
 use Rattle.std.proofs.lemmas.Bool.Decides.{nat_tests}
-use Rattle.iofd_words.specs.After.{attached, changed, copy_changes, hwpt_changes, made_hwpt}
-use Rattle.iofd_words.specs.After.{map_changes, mapped_area, settle, with_hwpt}
-use Rattle.iofd_words.specs.Answers.{Answers, IsHwptFor}
+use Rattle.iofd_steps.specs.After.{attached, changed, copy_changes, hwpt_changes, made_hwpt}
+use Rattle.iofd_steps.specs.After.{map_changes, mapped_area, settle, with_hwpt}
+use Rattle.iofd_steps.specs.Answers.{Answers, IsHwptFor}
 use Rattle.iofd_words.specs.Areas.{all_paid, areas_of, with_area}
-use Rattle.iofd_words.specs.Checks.{lacks_attached_frames, lacks_mapped_frames, lacks_new_tables, mapped_start, refusal}
-use Rattle.iofd_words.specs.Checks.{tables_to_map}
+use Rattle.iofd_refusals.specs.Checks.{lacks_attached_frames, lacks_mapped_frames, lacks_new_tables, mapped_start}
+use Rattle.iofd_refusals.specs.Checks.{refusal}
+use Rattle.iofd_refusals.specs.Checks.{tables_to_map}
 use Rattle.iofd_words.specs.Copies.{placed_as}
 use Rattle.iofd_words.specs.Files.{device_of, user_of}
 use Rattle.iofd_words.specs.Frames.{free_count, is_free}
 use Rattle.iofd_words.specs.Objects.{automatic_hwpt, binding_of, is_fresh, kind_of, settings_under}
 use Rattle.iofd_words.specs.Objects.{with_object}
-use Rattle.iofd_words.specs.Run.{IsAnswer, Lawful, MovesFrames}
+use Rattle.iofd_steps.specs.Run.{IsAnswer, Lawful, MovesFrames}
 use Rattle.iofd_words.specs.Settings.{DeviceSettings}
 use Rattle.iofd_words.specs.Span.{span_from}
 use Rattle.iofd_words.specs.TablePlaces.{lacking, live_pages, places_of}

@@ -5,11 +5,11 @@ use Rattle.std.specs.List.{filter, list_all, list_any}
 use Rattle.std.proofs.lemmas.Bool.Decides.{nat_tests}
 use Rattle.std.proofs.lemmas.List.{append-nil}
 use Rattle.std.proofs.lemmas.List.Elements.{filter-append}
-use Rattle.iofd_words.specs.After.{changed}
+use Rattle.iofd_steps.specs.After.{changed}
 use Rattle.iofd_words.specs.Areas.{areas_of, is_of}
-use Rattle.iofd_words.specs.Checks.{refusal}
+use Rattle.iofd_refusals.specs.Checks.{refusal}
 use Rattle.iofd_words.specs.Objects.{is_hwpt, is_object, kind_of, objects_of}
-use Rattle.iofd_words.specs.Run.{Lawful, MovesFrames, after, after_answer}
+use Rattle.iofd_steps.specs.Run.{Lawful, MovesFrames, after, after_answer}
 use Rattle.iofd_words.specs.TablePlaces.{TablePlace, has_table, is_place, is_table_of, live_pages, place_of, places_of}
 use Rattle.iofd_words.specs.Tables.{MissingTable, MovesTables, in_frames, is_among, is_orphan, kept_tables, may_go}
 use Rattle.iofd_words.specs.Tables.{missing_of, missing_tables, with_tables}

@@ -4,7 +4,7 @@ use Rattle.std.specs.Prelude.{nat_le, nat_lt, ◌||◌, ◌==◌}
 use Rattle.std.specs.Prelude.{◌&&◌, not, Option, Some, None, List, [], ◌∷◌, filter, find}
 use Rattle.std.specs.List.{list_all, list_any}
 use Rattle.iofd_words.specs.Allowed.{AllowedRanges}
-use Rattle.iofd_words.specs.Answers.{Answers}
+use Rattle.iofd_steps.specs.Answers.{Answers}
 use Rattle.iofd_words.specs.Areas.{is_of}
 use Rattle.iofd_words.specs.Dirty.{TrackedTable}
 use Rattle.iofd_words.specs.Files.{limit_of, user_of}
@@ -14,7 +14,7 @@ use Rattle.iofd_words.specs.Objects.{binding_of, has_hwpt, kind_of, objects_of}
 use Rattle.iofd_words.specs.Pages.{page_of}
 use Rattle.iofd_words.specs.Pins.{ObjectPage, frame_now, held_by, pinned_frame}
 use Rattle.iofd_words.specs.Rights.{is_fixed}
-use Rattle.iofd_words.specs.Run.{Lawful}
+use Rattle.iofd_steps.specs.Run.{Lawful}
 use Rattle.iofd_words.specs.Span.{holds}
 use Rattle.iofd_words.specs.TablePlaces.{has_table, is_live, root_place}
 use Rattle.iofd_words.specs.Tables.{is_orphan}

@@ -1,5 +1,5 @@
-//! Laws of the definitions in `iofd_words`: what is true of every run, whatever server makes it. Each is the contract
-//! of a function that does nothing; nothing here runs.
+//! Laws of the definitions: what is true of every run, whatever server makes it. Each is the contract of a function
+//! that does nothing; nothing here runs.
 #![tactic(auto)]
 
 mod every_run;

@@ -4,16 +4,16 @@ use Rattle.std.proofs.Common.{Some, None, List, [], ◌∷◌, ◌++◌, length,
 use Rattle.std.specs.List.{list_any}
 use Rattle.std.proofs.lemmas.Bool.Decides.{nat_tests}
 use Rattle.std.proofs.lemmas.Option.{slice_get_past}
-use Rattle.iofd_words.specs.After.{changed}
+use Rattle.iofd_steps.specs.After.{changed}
 use Rattle.iofd_words.specs.Allowed.{AllowedRanges, with_allowed}
-use Rattle.iofd_words.specs.Checks.{allow_iovas_checks, bind_checks, close_checks, copy_checks, destroy_checks}
-use Rattle.iofd_words.specs.Checks.{hwpt_alloc_checks, ioas_alloc_checks, map_checks, refusal, unbind_checks}
-use Rattle.iofd_words.specs.Checks.{unmap_checks, access_create_checks, access_attach_checks, access_detach_checks}
-use Rattle.iofd_words.specs.Checks.{access_pin_checks, access_unpin_checks, access_write_checks}
-use Rattle.iofd_words.specs.Checks.{dirty_checks, dirty_enable_checks}
+use Rattle.iofd_refusals.specs.Checks.{allow_iovas_checks, bind_checks, close_checks, copy_checks, destroy_checks}
+use Rattle.iofd_refusals.specs.Checks.{hwpt_alloc_checks, ioas_alloc_checks, map_checks, refusal, unbind_checks}
+use Rattle.iofd_refusals.specs.Checks.{unmap_checks, access_create_checks, access_attach_checks, access_detach_checks}
+use Rattle.iofd_refusals.specs.Checks.{access_pin_checks, access_unpin_checks, access_write_checks}
+use Rattle.iofd_refusals.specs.Checks.{dirty_checks, dirty_enable_checks}
 use Rattle.iofd_words.specs.Files.{is_open, user_of}
 use Rattle.iofd_words.specs.FirstTrue.{first_true}
-use Rattle.iofd_words.specs.Run.{IsRun, world_of}
+use Rattle.iofd_steps.specs.Run.{IsRun, world_of}
 use Rattle.iofd_words.specs.Settings.{Settings}
 use Rattle.iofd_words.specs.Tables.{with_tables}
 use Rattle.iofd_words.specs.View.{view}

@@ -1,8 +1,8 @@
 -- Objects and attachments that a step brings: an object with a name that no other had, and a device's attachment.
 use Rattle.std.proofs.Common.{◌≡◌, ℕ, true, Some, None, List, sym, ◌∙◌, ⊎_elim, subst, ap, false}
-use Rattle.iofd_words.specs.After.{changed}
-use Rattle.iofd_words.specs.Answers.{Answers}
-use Rattle.iofd_words.specs.Checks.{refusal}
+use Rattle.iofd_steps.specs.After.{changed}
+use Rattle.iofd_steps.specs.Answers.{Answers}
+use Rattle.iofd_refusals.specs.Checks.{refusal}
 use Rattle.iofd_words.specs.Objects.{is_fresh, is_object, kind_of, is_access}
 use Rattle.iofd_words.specs.World.{World}
 use Rattle.iofd_words.specs.declared.event.Event.{Event}

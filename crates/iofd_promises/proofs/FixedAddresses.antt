@@ -1,10 +1,10 @@
 -- An address at which a MAP was placed is one that it could have named: with that address fixed nothing refuses it.
 use Rattle.std.proofs.Common.{◌≡◌, ℕ, zero, suc, Bool, true, false, cond, ◌&&◌, ◌||◌, not, Option, Some, None, List, []}
 use Rattle.std.proofs.Common.{◌∷◌, drop, refl, ap, sym, ◌∙◌, subst}
-use Rattle.iofd_words.specs.After.{changed, copy_changes, map_changes, settle}
-use Rattle.iofd_words.specs.Answers.{Answers}
-use Rattle.iofd_words.specs.Checks.{copy_checks, has_choice, is_source_writable, lacks_mapped_frames, map_checks}
-use Rattle.iofd_words.specs.Checks.{refusal}
+use Rattle.iofd_steps.specs.After.{changed, copy_changes, map_changes, settle}
+use Rattle.iofd_steps.specs.Answers.{Answers}
+use Rattle.iofd_refusals.specs.Checks.{copy_checks, has_choice, is_source_writable, lacks_mapped_frames, map_checks}
+use Rattle.iofd_refusals.specs.Checks.{refusal}
 use Rattle.iofd_words.specs.Files.{user_of}
 use Rattle.iofd_words.specs.FirstTrue.{first_true}
 use Rattle.iofd_words.specs.Rights.{is_fixed, is_readable, is_writeable}

@@ -18,11 +18,11 @@ use Rattle.iofd_runs.proofs.HeldAccess.{ReachesHeld, reaches_held}
 use Rattle.iofd_runs.specs.Fits.{RowsFit}
 use Rattle.iofd_runs.specs.PinsFit.{AccessPinsFit}
 use Rattle.iofd_words.specs.Accesses.{accessed_frame}
-use Rattle.iofd_words.specs.After.{changed}
-use Rattle.iofd_words.specs.Checks.{held_access_checks, refusal}
+use Rattle.iofd_steps.specs.After.{changed}
+use Rattle.iofd_refusals.specs.Checks.{held_access_checks, refusal}
 use Rattle.iofd_words.specs.FirstTrue.{first_true}
 use Rattle.iofd_words.specs.Frames.{bytes_at}
-use Rattle.iofd_words.specs.Look.{answers_in, lawful_answers, page_bytes}
+use Rattle.iofd_steps.specs.Look.{answers_in, lawful_answers, page_bytes}
 use Rattle.iofd_words.specs.Pins.{ObjectPage, allows, is_page, page_of_pin, pinned_frame}
 use Rattle.iofd_words.specs.Policy.{page_in}
 use Rattle.iofd_words.specs.View.{view}

@@ -1,8 +1,8 @@
 -- Which writes a step adds: a user's, an access object's, a device's, and none else; a frame that is given out loses
 -- its own.
 use Rattle.std.proofs.Common.{◌≡◌, ◌≢◌, ℕ, false, List, ap, ◌∙◌, refl, true}
-use Rattle.iofd_words.specs.After.{changed}
-use Rattle.iofd_words.specs.Answers.{Answers}
+use Rattle.iofd_steps.specs.After.{changed}
+use Rattle.iofd_steps.specs.Answers.{Answers}
 use Rattle.iofd_words.specs.Policy.{outcomes}
 use Rattle.iofd_words.specs.World.{World}
 use Rattle.iofd_words.specs.declared.event.Event.{Event}

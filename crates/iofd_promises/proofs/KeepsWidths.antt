@@ -1,8 +1,8 @@
 -- In each world of a run an attached device's page table is of the device's width.
 use Rattle.std.proofs.Common.{◌≡◌, ℕ, true, None, List, ◌∙◌, ◌⊎◌, inl, inr, ⊎_elim, subst, Bool, Some, refl}
-use Rattle.iofd_words.specs.After.{changed}
-use Rattle.iofd_words.specs.Answers.{Answers}
-use Rattle.iofd_words.specs.Checks.{refusal}
+use Rattle.iofd_steps.specs.After.{changed}
+use Rattle.iofd_steps.specs.Answers.{Answers}
+use Rattle.iofd_refusals.specs.Checks.{refusal}
 use Rattle.iofd_words.specs.Settings.{Settings, DeviceSettings}
 use Rattle.iofd_words.specs.Tables.{with_tables}
 use Rattle.iofd_words.specs.World.{World}

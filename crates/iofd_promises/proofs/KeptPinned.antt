@@ -20,7 +20,7 @@ use Rattle.iofd_runs.proofs.Accessed.{of_areas}
 use Rattle.iofd_runs.proofs.HeldAccess.{page_of_object}
 use Rattle.iofd_runs.proofs.Moves.{PinsMove, SamePins, Settled}
 use Rattle.iofd_runs.proofs.PagesToPin.{pages_in}
-use Rattle.iofd_words.specs.After.{settle}
+use Rattle.iofd_steps.specs.After.{settle}
 use Rattle.iofd_words.specs.Objects.{has_hwpt, is_access_to, is_hwpt_over, kind_of}
 use Rattle.iofd_words.specs.Pins.{ObjectPage, covers_page, is_accessed, is_page, is_pin_in, is_translated, page_of_pin}
 use Rattle.iofd_words.specs.Pins.{pinned_frame, span_of_page}

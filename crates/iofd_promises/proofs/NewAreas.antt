@@ -4,9 +4,9 @@ use Rattle.std.proofs.Common.{false, cond, eqb, ltb, is_none, is_some, Option, S
 use Rattle.std.proofs.Common.{refl, arith, inl, inr, ⊎_elim}
 use Rattle.std.proofs.Math.Nat.{div-add-mod}
 use Rattle.std.proofs.lemmas.Bool.Decides.{nat_tests}
-use Rattle.iofd_words.specs.After.{changed, copy_changes, map_changes, mapped_area, memory_object, settle}
+use Rattle.iofd_steps.specs.After.{changed, copy_changes, map_changes, mapped_area, memory_object, settle}
 use Rattle.iofd_words.specs.Areas.{lies_before, with_area}
-use Rattle.iofd_words.specs.Checks.{refusal}
+use Rattle.iofd_refusals.specs.Checks.{refusal}
 use Rattle.iofd_words.specs.Copies.{placed_as}
 use Rattle.iofd_words.specs.Files.{numbered, user_of}
 use Rattle.iofd_words.specs.Pages.{is_whole}

@@ -3,7 +3,7 @@ use Rattle.std.proofs.Common.{◌≡◌, ℕ, ◌+◌, ◌/◌, not, eqb, Option
 use Rattle.std.proofs.Common.{⊎_elim}
 use Rattle.std.specs.List.{filter, filter_map, find, list_any}
 use Rattle.std.proofs.lemmas.Bool.{eqb-true}
-use Rattle.iofd_words.specs.After.{settle}
+use Rattle.iofd_steps.specs.After.{settle}
 use Rattle.iofd_words.specs.Frames.{frame_at}
 use Rattle.iofd_words.specs.Pins.{ObjectPage, is_page, page_of_pin, pin_now, pinned_pages}
 use Rattle.iofd_words.specs.World.{World}

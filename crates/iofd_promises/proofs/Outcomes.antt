@@ -1,12 +1,12 @@
 -- How an outcome is told, read backwards: which outcome a reply or an answer is of.
 use Rattle.std.proofs.Common.{◌≡◌, ℕ, ◌%◌, Option, Some, None, List, [], ◌∷◌, ◌++◌, Contains, refl, ap, subst}
-use Rattle.iofd_words.specs.Answers.{Answers, write_reply}
-use Rattle.iofd_words.specs.Checks.{access_checks}
+use Rattle.iofd_steps.specs.Answers.{Answers, write_reply}
+use Rattle.iofd_refusals.specs.Checks.{access_checks}
 use Rattle.iofd_words.specs.FirstTrue.{first_true}
 use Rattle.iofd_words.specs.Frames.{bytes_at}
-use Rattle.iofd_words.specs.Look.{answers_in, lawful_answers, read_answer}
+use Rattle.iofd_steps.specs.Look.{answers_in, lawful_answers, read_answer}
 use Rattle.iofd_words.specs.Policy.{Outcome, Passes, Denied, fault_of, outcomes}
-use Rattle.iofd_words.specs.Run.{IsRun, world_of}
+use Rattle.iofd_steps.specs.Run.{IsRun, world_of}
 use Rattle.iofd_words.specs.Settings.{Settings}
 use Rattle.iofd_words.specs.View.{view}
 use Rattle.iofd_words.specs.World.{World}

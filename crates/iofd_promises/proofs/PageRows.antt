@@ -4,10 +4,10 @@ use Rattle.std.proofs.Common.{Option, Some, None, List, [], ◌∷◌, ◌++◌,
 use Rattle.std.specs.List.{filter, find, list_all, list_any}
 use Rattle.std.proofs.Math.Nat.{div-lt_iff_lt-mul}
 use Rattle.std.proofs.lemmas.Bool.Decides.{nat_tests}
-use Rattle.iofd_words.specs.After.{changed}
+use Rattle.iofd_steps.specs.After.{changed}
 use Rattle.iofd_words.specs.Frames.{frame_at, is_free}
 use Rattle.iofd_words.specs.Pages.{is_whole}
-use Rattle.iofd_words.specs.Run.{IsRun, world_of}
+use Rattle.iofd_steps.specs.Run.{IsRun, world_of}
 use Rattle.iofd_words.specs.Settings.{Settings}
 use Rattle.iofd_words.specs.Tables.{with_tables}
 use Rattle.iofd_words.specs.View.{view}
@@ -24,8 +24,8 @@ use Rattle.iofd_runs.proofs.OwnIds.{any_found}
 use Rattle.iofd_runs.proofs.Runs.{run_keeps}
 use Rattle.iofd_runs.proofs.Moves.{FewerPages, MemoryMoves, OnePage, SameMemory, Written, changed_moves}
 use Rattle.iofd_promises.proofs.Lists.{all_apart, apart-filter, apart-more}
-use Rattle.iofd_words.specs.Answers.{Answers}
-use Rattle.iofd_words.specs.Checks.{refusal}
+use Rattle.iofd_steps.specs.Answers.{Answers}
+use Rattle.iofd_refusals.specs.Checks.{refusal}
 use Rattle.iofd_words.specs.declared.event.Event.{Event}
 
 -- what holds of the users' pages where it holds with one more and of those that a filter keeps

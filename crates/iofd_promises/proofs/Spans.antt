@@ -7,7 +7,7 @@ use Rattle.iofd_words.specs.Bounds.{Bounds}
 use Rattle.iofd_words.specs.Objects.{is_hwpt_over}
 use Rattle.iofd_words.specs.Pages.{is_above_sum}
 use Rattle.iofd_words.specs.Ranges.{meets_some}
-use Rattle.iofd_words.specs.Run.{IsRun, world_of}
+use Rattle.iofd_steps.specs.Run.{IsRun, world_of}
 use Rattle.iofd_words.specs.Settings.{Settings}
 use Rattle.iofd_words.specs.Tables.{with_tables}
 use Rattle.iofd_words.specs.Usable.{beyond_table, unusable}
@@ -29,10 +29,10 @@ use Rattle.iofd_runs.proofs.Runs.{run_keeps}
 use Rattle.iofd_runs.proofs.Moves.{changed_moves, all_areas}
 use Rattle.iofd_runs.proofs.MappedAt.{LiesAt}
 use Rattle.iofd_runs.proofs.NotRefused.{PlacePassed}
-use Rattle.iofd_words.specs.After.{changed, mapped_area}
-use Rattle.iofd_words.specs.Answers.{Answers}
+use Rattle.iofd_steps.specs.After.{changed, mapped_area}
+use Rattle.iofd_steps.specs.Answers.{Answers}
 use Rattle.iofd_words.specs.Areas.{with_phase}
-use Rattle.iofd_words.specs.Checks.{refusal}
+use Rattle.iofd_refusals.specs.Checks.{refusal}
 use Rattle.iofd_words.specs.View.{view}
 use Rattle.iofd_words.specs.declared.event.Event.{Event}
 use Rattle.iofd_words.specs.declared.event.MapRequest.{MapRequest}

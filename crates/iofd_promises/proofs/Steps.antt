@@ -1,12 +1,12 @@
 -- The last record of a run: it was refused, or carried out in the world that those before it have left.
 use Rattle.std.proofs.Common.{◌≡◌, ℕ, suc, ◌+◌, Bool, true, false, Option, Some, None, List, [], ◌∷◌, ◌++◌, length}
 use Rattle.std.proofs.Common.{refl, ap, sym, ◌∙◌, subst, arith}
-use Rattle.iofd_words.specs.After.{changed}
-use Rattle.iofd_words.specs.Answers.{Answers}
-use Rattle.iofd_words.specs.Checks.{refusal}
+use Rattle.iofd_steps.specs.After.{changed}
+use Rattle.iofd_steps.specs.Answers.{Answers}
+use Rattle.iofd_refusals.specs.Checks.{refusal}
 use Rattle.std.specs.List.{list_all}
 use Rattle.iofd_words.specs.Frames.{is_free}
-use Rattle.iofd_words.specs.Run.{IsAnswer, IsRun, Lawful, MovesFrames, after, after_answer, world_from, world_of}
+use Rattle.iofd_steps.specs.Run.{IsAnswer, IsRun, Lawful, MovesFrames, after, after_answer, world_from, world_of}
 use Rattle.iofd_words.specs.Settings.{Settings}
 use Rattle.iofd_words.specs.Tables.{MovesTables, are_different, with_tables}
 use Rattle.iofd_words.specs.World.{World, opening}

@@ -35,7 +35,7 @@ use Rattle.iofd_promises.proofs.Rows.{contains, within}
 use Rattle.iofd_promises.proofs.Spaces.{device_translates, translates_device}
 use Rattle.iofd_laws.proofs.FreeFrames.{some_in}
 use Rattle.iofd_words.specs.declared.refusal.Errno.TheVariants.{EAGAIN, EDEADLOCK}
-use Rattle.iofd_words.specs.Answers.{waits}
+use Rattle.iofd_steps.specs.Answers.{waits}
 use Rattle.iofd_words.specs.Pins.{has_pin_in, is_pin_in}
 use Rattle.iofd_words.specs.Objects.{is_access_to, kind_of}
 

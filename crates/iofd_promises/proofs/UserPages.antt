@@ -3,11 +3,11 @@ use Rattle.std.proofs.Common.{◌≡◌, ℕ, ◌/◌, ◌%◌, true, false, ◌
 use Rattle.std.proofs.Common.{Contains, refl, ap, arith}
 use Rattle.std.specs.List.{find}
 use Rattle.std.proofs.lemmas.Bool.{eqb-true}
-use Rattle.iofd_words.specs.After.{changed}
-use Rattle.iofd_words.specs.Checks.{refusal, user_access_checks}
+use Rattle.iofd_steps.specs.After.{changed}
+use Rattle.iofd_refusals.specs.Checks.{refusal, user_access_checks}
 use Rattle.iofd_words.specs.FirstTrue.{first_true}
 use Rattle.iofd_words.specs.Frames.{bytes_at, frame_at}
-use Rattle.iofd_words.specs.Look.{answers_in, lawful_answers, page_bytes}
+use Rattle.iofd_steps.specs.Look.{answers_in, lawful_answers, page_bytes}
 use Rattle.iofd_words.specs.View.{view}
 use Rattle.iofd_words.specs.World.{World}
 use Rattle.iofd_words.specs.declared.event.Event.TheVariants as event

@@ -5,7 +5,7 @@ ghost use Rattle.iofd_promises.specs.Bounded.{how_many};
 ghost use Rattle.iofd_promises.specs.Closing.{file_named};
 ghost use Rattle.iofd_promises.specs.Holding.{HasPinLess, HasPinMore, IsUnder, IsWholePages, KeepsPinned, pins_of};
 ghost use Rattle.iofd_promises.specs.Unmaps.{LiesIn, is_named};
-ghost use Rattle.iofd_words.specs.Run.{IsRun, world_of};
+ghost use Rattle.iofd_steps.specs.Run.{IsRun, world_of};
 ghost use Rattle.iofd_words.specs.Settings.{Settings};
 ghost use Rattle.iofd_words.specs.declared.event.Event.TheVariants as event;
 ghost use Rattle.iofd_words.specs.declared.event.PinRequest.{PinRequest};

@@ -2,7 +2,7 @@
 
 ghost use Rattle.std.specs.Prelude.{◌≡◌, Some, List, [], ◌∷◌, ◌++◌, Contains};
 ghost use Rattle.iofd_promises.specs.Closing.{HasNothing, IsGone, file_named};
-ghost use Rattle.iofd_words.specs.Run.{IsRun, world_of};
+ghost use Rattle.iofd_steps.specs.Run.{IsRun, world_of};
 ghost use Rattle.iofd_words.specs.Settings.{Settings};
 ghost use Rattle.iofd_words.specs.declared.event.Event.TheVariants as event;
 ghost use Rattle.iofd_words.specs.declared.numbers.FileNo.{FileNo};

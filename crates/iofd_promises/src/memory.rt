@@ -4,8 +4,8 @@ ghost use Rattle.std.specs.Prelude.{◌≡◌, ◌≢◌, ◌/◌, ◌%◌, ℕ,
 ghost use Rattle.std.specs.Prelude.{◌++◌, Contains};
 ghost use Rattle.iofd_promises.specs.Bytes.{AreBytesOf, ChangesJust, changes_bytes, reads};
 ghost use Rattle.iofd_promises.specs.Holding.{ReachesByPin};
-ghost use Rattle.iofd_words.specs.Look.{answers_to};
-ghost use Rattle.iofd_words.specs.Run.{IsRun, world_of};
+ghost use Rattle.iofd_steps.specs.Look.{answers_to};
+ghost use Rattle.iofd_steps.specs.Run.{IsRun, world_of};
 ghost use Rattle.iofd_words.specs.Settings.{Settings};
 ghost use Rattle.iofd_words.specs.declared.event.Event.TheVariants as event;
 ghost use Rattle.iofd_words.specs.declared.fault.AccessKind.TheVariants.{Read, Write};

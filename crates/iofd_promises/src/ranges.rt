@@ -4,9 +4,9 @@ ghost use Rattle.std.specs.Prelude.{◌≡◌, ◌<◌, ◌+◌, ℕ, Bool, true
 ghost use Rattle.std.specs.Prelude.{◌++◌, Contains, slice_get};
 ghost use Rattle.iofd_promises.specs.Reaches.{TranslatesBy};
 ghost use Rattle.iofd_promises.specs.Reserved.{Avoids, end_of};
-ghost use Rattle.iofd_words.specs.Checks.{refusal};
+ghost use Rattle.iofd_refusals.specs.Checks.{refusal};
 ghost use Rattle.iofd_words.specs.Rights.{is_fixed, is_readable, is_writeable};
-ghost use Rattle.iofd_words.specs.Run.{IsRun, world_of};
+ghost use Rattle.iofd_steps.specs.Run.{IsRun, world_of};
 ghost use Rattle.iofd_words.specs.Settings.{DeviceSettings, Settings};
 ghost use Rattle.iofd_words.specs.declared.event.CopyRequest.{CopyRequest};
 ghost use Rattle.iofd_words.specs.declared.event.Event.TheVariants as event;

@@ -2,7 +2,7 @@
 
 ghost use Rattle.std.specs.Prelude.{◌≡◌, ℕ, List, [], ◌∷◌, ◌++◌};
 ghost use Rattle.iofd_promises.specs.Unmaps.{AllPaid, SameOthers, TakesAway, Waits};
-ghost use Rattle.iofd_words.specs.Run.{IsRun, world_of};
+ghost use Rattle.iofd_steps.specs.Run.{IsRun, world_of};
 ghost use Rattle.iofd_words.specs.Settings.{Settings};
 ghost use Rattle.iofd_words.specs.declared.event.Event.TheVariants as event;
 ghost use Rattle.iofd_words.specs.declared.event.UnmapRequest.{UnmapRequest};

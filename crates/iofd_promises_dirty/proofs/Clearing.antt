@@ -4,19 +4,19 @@ use Rattle.std.proofs.Common.{List, [], ◌∷◌, map, refl, ap, sym, ◌∙◌
 use Rattle.std.specs.Prelude.{◌↔◌}
 use Rattle.std.specs.List.{filter, list_any, range_with_len, sum}
 use Rattle.std.proofs.lemmas.Bool.{eqb-true}
-use Rattle.iofd_words.specs.After.{changed}
-use Rattle.iofd_words.specs.Answers.{Answers, AnswersDirty}
+use Rattle.iofd_steps.specs.After.{changed}
+use Rattle.iofd_steps.specs.Answers.{Answers, AnswersDirty}
 use Rattle.iofd_words.specs.Bounds.{Bounds}
-use Rattle.iofd_words.specs.Checks.{dirty_checks, refusal}
+use Rattle.iofd_refusals.specs.Checks.{dirty_checks, refusal}
 use Rattle.iofd_words.specs.Dirty.{TrackedTable, has_mark, is_marked, is_tracked_as, reported_span, reported_words}
 use Rattle.iofd_words.specs.Dirty.{tracks, without_marks}
 use Rattle.iofd_words.specs.DirtyWords.{dirty_words, is_page_of, is_reported, word_pages}
 use Rattle.iofd_words.specs.Files.{is_open}
 use Rattle.iofd_words.specs.FirstTrue.{first_true}
-use Rattle.iofd_words.specs.Look.{answers_in}
+use Rattle.iofd_steps.specs.Look.{answers_in}
 use Rattle.iofd_words.specs.Objects.{is_hwpt_under}
 use Rattle.iofd_words.specs.Pages.{is_above_sum, is_whole}
-use Rattle.iofd_words.specs.Run.{IsRun, world_of}
+use Rattle.iofd_steps.specs.Run.{IsRun, world_of}
 use Rattle.iofd_words.specs.Settings.{Settings}
 use Rattle.iofd_words.specs.Tables.{with_tables}
 use Rattle.iofd_words.specs.View.{view}

@@ -1,7 +1,7 @@
 -- Lists that grow at their ends, and what is said of the records from one on.
 use Rattle.std.proofs.Common.{◌≡◌, List, [], ◌∷◌, ◌++◌, Contains, refl, ap}
 use Rattle.std.proofs.Common.{sym, ◌∙◌, subst, append_assoc, append-nil, ◌⊎◌, inl, inr}
-use Rattle.iofd_words.specs.Run.{world_of}
+use Rattle.iofd_steps.specs.Run.{world_of}
 use Rattle.iofd_words.specs.Settings.{Settings}
 use Rattle.iofd_words.specs.declared.numbers.FileNo.{FileNo}
 use Rattle.iofd_words.specs.declared.numbers.ObjId.{ObjId}

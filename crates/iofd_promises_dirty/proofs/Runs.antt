@@ -1,13 +1,13 @@
 -- A row stays over the records of a run, and comes by one of them.
 use Rattle.std.proofs.Common.{◌≡◌, ℕ, not, Option, Some, None, List, [], ◌∷◌, ◌++◌, Contains, refl, ap}
 use Rattle.std.proofs.Common.{sym, ◌∙◌, subst, length, append_assoc, append-nil, inl, inr}
-use Rattle.iofd_words.specs.After.{changed}
+use Rattle.iofd_steps.specs.After.{changed}
 use Rattle.iofd_words.specs.Attachments.{attachment_of}
 use Rattle.iofd_words.specs.Dirty.{marked_by, reported_span}
 use Rattle.iofd_words.specs.DirtyWords.{is_page_of}
 use Rattle.iofd_words.specs.Pages.{page_of}
-use Rattle.iofd_words.specs.Checks.{refusal}
-use Rattle.iofd_words.specs.Run.{IsRun, world_of}
+use Rattle.iofd_refusals.specs.Checks.{refusal}
+use Rattle.iofd_steps.specs.Run.{IsRun, world_of}
 use Rattle.iofd_words.specs.Settings.{Settings}
 use Rattle.iofd_words.specs.Tables.{with_tables}
 use Rattle.iofd_words.specs.View.{view}

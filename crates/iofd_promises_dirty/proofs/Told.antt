@@ -8,14 +8,14 @@ use Rattle.std.specs.List.{list_any, slice_get}
 use Rattle.std.proofs.Math.Nat.{div-add-mod}
 use Rattle.std.proofs.lemmas.Bool.{eqb-true, eq-eqb}
 use Rattle.std.proofs.lemmas.Bool.Decides.{nat_tests}
-use Rattle.iofd_words.specs.Answers.{Answers}
+use Rattle.iofd_steps.specs.Answers.{Answers}
 use Rattle.iofd_words.specs.Bounds.{Bounds}
-use Rattle.iofd_words.specs.Checks.{dirty_checks}
+use Rattle.iofd_refusals.specs.Checks.{dirty_checks}
 use Rattle.iofd_words.specs.Dirty.{has_mark, is_marked, is_tracked_as, reported_span, reported_words}
 use Rattle.iofd_words.specs.DirtyWords.{dirty_word, dirty_words, is_page_of, is_reported, word_pages}
 use Rattle.iofd_words.specs.FirstTrue.{first_true}
-use Rattle.iofd_words.specs.Look.{answers_in}
-use Rattle.iofd_words.specs.Run.{IsRun, world_of}
+use Rattle.iofd_steps.specs.Look.{answers_in}
+use Rattle.iofd_steps.specs.Run.{IsRun, world_of}
 use Rattle.iofd_words.specs.Settings.{Settings}
 use Rattle.iofd_words.specs.View.{view}
 use Rattle.iofd_words.specs.World.{World}

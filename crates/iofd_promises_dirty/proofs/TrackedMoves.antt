@@ -2,9 +2,9 @@
 use Rattle.std.proofs.Common.{◌≡◌, ℕ, Bool, true, false, cond, ◌&&◌, not, eqb, Option, Some, List, refl, ap}
 use Rattle.std.proofs.Common.{sym, ◌∙◌, subst}
 use Rattle.std.specs.List.{filter, list_any}
-use Rattle.iofd_words.specs.After.{changed, copy_changes, detached, goes_with, hwpt_changes, map_changes, settle}
-use Rattle.iofd_words.specs.After.{attached, joined, without_areas}
-use Rattle.iofd_words.specs.Answers.{Answers}
+use Rattle.iofd_steps.specs.After.{changed, copy_changes, detached, goes_with, hwpt_changes, map_changes, settle}
+use Rattle.iofd_steps.specs.After.{attached, joined, without_areas}
+use Rattle.iofd_steps.specs.Answers.{Answers}
 use Rattle.iofd_words.specs.Areas.{areas_of}
 use Rattle.iofd_words.specs.Attachments.{attachment_of, without_attachment}
 use Rattle.iofd_words.specs.Copies.{source_in}

@@ -1,8 +1,8 @@
 -- Which record of a run turned tracking on.
 use Rattle.std.proofs.Common.{true, List, [], ◌∷◌, ◌++◌, refl}
 use Rattle.std.proofs.Common.{sym, ◌∙◌, subst, inl}
-use Rattle.iofd_words.specs.After.{changed}
-use Rattle.iofd_words.specs.Run.{IsRun, world_of}
+use Rattle.iofd_steps.specs.After.{changed}
+use Rattle.iofd_steps.specs.Run.{IsRun, world_of}
 use Rattle.iofd_words.specs.Settings.{Settings}
 use Rattle.iofd_words.specs.Tables.{with_tables}
 use Rattle.iofd_words.specs.World.{World}

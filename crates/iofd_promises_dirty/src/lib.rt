@@ -6,8 +6,8 @@ ghost use Rattle.std.specs.Prelude.{◌≡◌, ◌↔◌, ℕ, Bool, true, false
 ghost use Rattle.iofd_promises_dirty.specs.Marks.{HasTable, IsAskedFor, IsMarked, IsTold, IsTracked, IsTurnedOn};
 ghost use Rattle.iofd_promises_dirty.specs.Marks.{IsWritten};
 ghost use Rattle.iofd_words.specs.Dirty.{TrackedTable};
-ghost use Rattle.iofd_words.specs.Look.{answers_to};
-ghost use Rattle.iofd_words.specs.Run.{IsRun, world_of};
+ghost use Rattle.iofd_steps.specs.Look.{answers_to};
+ghost use Rattle.iofd_steps.specs.Run.{IsRun, world_of};
 ghost use Rattle.iofd_words.specs.Settings.{Settings};
 ghost use Rattle.iofd_words.specs.declared.event.DirtyRequest.{DirtyRequest};
 ghost use Rattle.iofd_words.specs.declared.event.Event.TheVariants as event;

@@ -5,7 +5,7 @@ use Rattle.std.specs.List.{filter, find, list_all, list_any}
 use Rattle.std.proofs.lemmas.Bool.{eqb-true}
 use Rattle.std.proofs.lemmas.Bool.Decides.{nat_tests}
 use Rattle.iofd_words.specs.Attachments.{attachment_of, has_lower_device, with_attachment}
-use Rattle.iofd_words.specs.Checks.{is_attached, is_device_object}
+use Rattle.iofd_refusals.specs.Checks.{is_attached, is_device_object}
 use Rattle.iofd_rows.specs.Debts.{attach_once}
 use Rattle.iofd_rows.specs.Ids.{have_own_ids}
 use Rattle.iofd_words.specs.Objects.{binding_of, is_automatic, is_bound_as, is_bound_device, is_object, kind_of}

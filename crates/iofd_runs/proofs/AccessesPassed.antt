@@ -4,8 +4,8 @@ use Rattle.std.proofs.Common.{◌≡◌, ℕ, Bool, true, false, ◌&&◌, not, 
 use Rattle.std.proofs.Common.{refl, subst}
 use Rattle.iofd_words.specs.Accesses.{has_gap, lacks_accessed_page, meets_leaving, meets_without_right, pin_of}
 use Rattle.iofd_words.specs.Accesses.{pinned_span}
-use Rattle.iofd_words.specs.Checks.{access_pin_checks, access_unpin_checks, access_write_checks, held_access_checks}
-use Rattle.iofd_words.specs.Checks.{passes_limit_accessed, pin_checks_in}
+use Rattle.iofd_refusals.specs.Checks.{access_pin_checks, access_unpin_checks, access_write_checks, held_access_checks}
+use Rattle.iofd_refusals.specs.Checks.{passes_limit_accessed, pin_checks_in}
 use Rattle.iofd_words.specs.FirstTrue.{first_true}
 use Rattle.iofd_words.specs.Objects.{access_ioas_of, has_access}
 use Rattle.iofd_words.specs.Pages.{crosses, is_above_sum, is_whole}

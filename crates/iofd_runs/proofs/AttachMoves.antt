@@ -4,8 +4,8 @@ use Rattle.std.proofs.Common.{arith, is_some, ⊎_elim, sym}
 use Rattle.std.specs.List.{filter}
 use Rattle.std.proofs.lemmas.Bool.{eqb-true}
 use Rattle.std.proofs.lemmas.Bool.Decides.{nat_tests}
-use Rattle.iofd_words.specs.After.{goes_with, with_hwpt}
-use Rattle.iofd_words.specs.Answers.{IsHwptFor}
+use Rattle.iofd_steps.specs.After.{goes_with, with_hwpt}
+use Rattle.iofd_steps.specs.Answers.{IsHwptFor}
 use Rattle.iofd_words.specs.Areas.{all_paid}
 use Rattle.iofd_words.specs.Attachments.{attachment_of, has_device_on, ioas_of, with_attachment, without_attachment}
 use Rattle.iofd_rows.specs.Ids.{have_own_ids}

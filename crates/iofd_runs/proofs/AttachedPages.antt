@@ -4,9 +4,9 @@ use Rattle.std.proofs.Common.{is_some, arith, List, refl, ap, sym, subst, ◌∙
 use Rattle.std.specs.List.{filter, flat_map, list_any}
 use Rattle.std.proofs.lemmas.Bool.Decides.{nat_tests}
 use Rattle.std.proofs.lemmas.Bool.{eqb-true}
-use Rattle.iofd_words.specs.After.{with_hwpt}
+use Rattle.iofd_steps.specs.After.{with_hwpt}
 use Rattle.iofd_words.specs.Areas.{areas_of, is_of}
-use Rattle.iofd_words.specs.Checks.{attach_checks, lacks_attached_page}
+use Rattle.iofd_refusals.specs.Checks.{attach_checks, lacks_attached_page}
 use Rattle.iofd_words.specs.FirstTrue.{first_true}
 use Rattle.iofd_words.specs.Objects.{binding_of, has_hwpt, kind_of, with_object}
 use Rattle.iofd_words.specs.Pins.{ObjectPage, frame_now, is_page, is_translated, pages_of, pinned_frame, pinned_pages}

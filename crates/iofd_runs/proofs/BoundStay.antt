@@ -1,7 +1,7 @@
 -- Devices that are attached stay bound to their files where objects go.
 use Rattle.std.proofs.Common.{◌≡◌, Bool, true, ◌&&◌, not, eqb, List, refl, false}
 use Rattle.std.specs.List.{filter, list_any}
-use Rattle.iofd_words.specs.After.{goes_with}
+use Rattle.iofd_steps.specs.After.{goes_with}
 use Rattle.iofd_words.specs.Attachments.{has_device_on}
 use Rattle.iofd_words.specs.Objects.{is_automatic, is_bound_as, is_object, without_object, is_bound_device, kind_of}
 use Rattle.iofd_words.specs.Objects.{objects_of}
@@ -16,7 +16,7 @@ use Rattle.iofd_rows.proofs.Bound.{attachments_bound, attachments_stay, file_wit
 use Rattle.iofd_rows.proofs.Bound.{no_device_either, stays-filter}
 use Rattle.iofd_rows.specs.Debts.{attach_once}
 use Rattle.iofd_rows.specs.Ids.{have_own_ids}
-use Rattle.iofd_words.specs.Checks.{is_device_object}
+use Rattle.iofd_refusals.specs.Checks.{is_device_object}
 
 abbrev pub BoundStay : World → List Object → Type 0
 BoundStay w left = have_own_ids w.objects ≡ true → attach_once w.attachments ≡ true

@@ -1,7 +1,7 @@
 -- The world after an event that looks a row up: it changes by that row, and stays where there is none.
 use Rattle.std.proofs.Common.{Bool, Option, Some, None, refl, ◌≡◌}
-use Rattle.iofd_words.specs.After.{attach_changes, attached, detach_changes, detached, joined, settle, target_changes}
-use Rattle.iofd_words.specs.Answers.{IsHwptFor, IsHwptOf, IsTarget}
+use Rattle.iofd_steps.specs.After.{attach_changes, attached, detach_changes, detached, joined, settle, target_changes}
+use Rattle.iofd_steps.specs.Answers.{IsHwptFor, IsHwptOf, IsTarget}
 use Rattle.iofd_words.specs.Attachments.{attachment_of}
 use Rattle.iofd_words.specs.Files.{device_of}
 use Rattle.iofd_words.specs.Objects.{automatic_hwpt, binding_of, kind_of}

@@ -3,9 +3,9 @@ use Rattle.std.proofs.Common.{◌≡◌, ℕ, Bool, true, false, ◌&&◌, ◌||
 use Rattle.std.proofs.Common.{refl, ap, sym, ◌∙◌, arith, []}
 use Rattle.std.specs.List.{filter, list_any}
 use Rattle.std.proofs.lemmas.Bool.Decides.{nat_tests}
-use Rattle.iofd_words.specs.After.{mapped_area}
+use Rattle.iofd_steps.specs.After.{mapped_area}
 use Rattle.iofd_words.specs.Areas.{with_area}
-use Rattle.iofd_words.specs.Checks.{copy_checks, newly_copied}
+use Rattle.iofd_refusals.specs.Checks.{copy_checks, newly_copied}
 use Rattle.iofd_words.specs.Copies.{placed_as}
 use Rattle.iofd_words.specs.FirstTrue.{first_true}
 use Rattle.iofd_words.specs.Objects.{has_hwpt}

@@ -14,11 +14,11 @@ use Rattle.iofd_rows.proofs.OwnIds.{unused}
 use Rattle.iofd_rows.proofs.Unusable.{each_not, none_of}
 use Rattle.iofd_rows.specs.AccessPins.{IsHeld, are_in_spaces}
 use Rattle.iofd_runs.proofs.Accessed.{EachHeld, HoldersStay, some_in}
-use Rattle.iofd_words.specs.After.{goes_with}
-use Rattle.iofd_words.specs.Answers.{waits}
+use Rattle.iofd_steps.specs.After.{goes_with}
+use Rattle.iofd_steps.specs.Answers.{waits}
 use Rattle.iofd_words.specs.Areas.{is_held_back, is_of, is_touched, owed_by, touched}
 use Rattle.iofd_words.specs.Attachments.{devices_of}
-use Rattle.iofd_words.specs.Checks.{is_used}
+use Rattle.iofd_refusals.specs.Checks.{is_used}
 use Rattle.iofd_words.specs.Objects.{access_ioas, access_ioas_of, has_access_to, has_hwpt, is_access, is_access_to}
 use Rattle.iofd_words.specs.Objects.{is_bound_device, is_fresh, is_object, kind_of, objects_of}
 use Rattle.iofd_words.specs.Objects.{with_access}

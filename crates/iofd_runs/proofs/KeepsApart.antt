@@ -4,11 +4,11 @@ use Rattle.std.proofs.Common.{refl, ap, sym, ◌∙◌, arith}
 use Rattle.std.specs.Prelude.{map}
 use Rattle.std.specs.List.{filter}
 use Rattle.std.proofs.lemmas.Bool.Decides.{nat_tests}
-use Rattle.iofd_words.specs.After.{changed, mapped_area}
-use Rattle.iofd_words.specs.Answers.{Answers}
+use Rattle.iofd_steps.specs.After.{changed, mapped_area}
+use Rattle.iofd_steps.specs.Answers.{Answers}
 use Rattle.iofd_words.specs.Areas.{areas_meet, areas_of, is_of, lies_before, meets_area, with_area, with_phase}
 use Rattle.iofd_words.specs.Bounds.{Bounds}
-use Rattle.iofd_words.specs.Checks.{refusal}
+use Rattle.iofd_refusals.specs.Checks.{refusal}
 use Rattle.iofd_runs.specs.Apart.{are_apart}
 use Rattle.iofd_words.specs.Span.{meets}
 use Rattle.iofd_words.specs.World.{World}

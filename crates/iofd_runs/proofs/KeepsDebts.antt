@@ -1,10 +1,10 @@
 -- Every event keeps each debtor attached to the address space of its area.
 use Rattle.std.proofs.Common.{◌≡◌, ℕ, true, not, None, List, refl, Some}
-use Rattle.iofd_words.specs.After.{attached, changed, copy_changes, detached, hwpt_changes, joined, made_hwpt}
-use Rattle.iofd_words.specs.After.{map_changes, mapped_area, settle, with_hwpt, without_areas}
-use Rattle.iofd_words.specs.Answers.{Answers}
+use Rattle.iofd_steps.specs.After.{attached, changed, copy_changes, detached, hwpt_changes, joined, made_hwpt}
+use Rattle.iofd_steps.specs.After.{map_changes, mapped_area, settle, with_hwpt, without_areas}
+use Rattle.iofd_steps.specs.Answers.{Answers}
 use Rattle.iofd_words.specs.Areas.{is_touched}
-use Rattle.iofd_words.specs.Checks.{refusal}
+use Rattle.iofd_refusals.specs.Checks.{refusal}
 use Rattle.iofd_rows.specs.Debts.{DebtsAttached}
 use Rattle.iofd_words.specs.Copies.{placed_as}
 use Rattle.iofd_words.specs.Files.{user_of}

@@ -12,10 +12,10 @@ use Rattle.iofd_rows.proofs.PageCounts.{count-cons}
 use Rattle.iofd_runs.proofs.Moves.{AreasMove, Fewer, FewerAreas, More, ObjectsMove, OneArea, OtherPhases, Reattached}
 use Rattle.iofd_runs.proofs.Moves.{Same, SameAreas, changed_moves}
 use Rattle.iofd_runs.specs.Few.{RowsFew}
-use Rattle.iofd_words.specs.After.{changed, mapped_area}
-use Rattle.iofd_words.specs.Answers.{Answers}
+use Rattle.iofd_steps.specs.After.{changed, mapped_area}
+use Rattle.iofd_steps.specs.Answers.{Answers}
 use Rattle.iofd_words.specs.Areas.{areas_of, is_of, lies_before, with_phase}
-use Rattle.iofd_words.specs.Checks.{refusal}
+use Rattle.iofd_refusals.specs.Checks.{refusal}
 use Rattle.iofd_words.specs.Objects.{comes_before, is_full, objects_of}
 use Rattle.iofd_words.specs.Settings.{Settings}
 use Rattle.iofd_words.specs.Tables.{with_tables}

@@ -4,10 +4,10 @@ use Rattle.std.proofs.Common.{◌≡◌, ℕ, ◌+◌, ◌<◌, ◌≤◌, ◌^�
 use Rattle.std.proofs.Common.{Option, Some, None, List, [], ◌∷◌, refl, arith, ◌++◌, ap, sym, leb, ◌∙◌}
 use Rattle.std.specs.List.{filter, list_all, find, filter_map, list_any}
 use Rattle.std.proofs.lemmas.Bool.Decides.{nat_tests}
-use Rattle.iofd_words.specs.After.{changed, mapped_area, settle}
-use Rattle.iofd_words.specs.Answers.{Answers}
+use Rattle.iofd_steps.specs.After.{changed, mapped_area, settle}
+use Rattle.iofd_steps.specs.Answers.{Answers}
 use Rattle.iofd_words.specs.Attachments.{attachment_of, has_lower_device, with_attachment}
-use Rattle.iofd_words.specs.Checks.{refusal}
+use Rattle.iofd_refusals.specs.Checks.{refusal}
 use Rattle.iofd_runs.specs.Fits.{RowsFit, begins_at_page, devices_rise, has_rights, is_of_pages, is_known_device}
 use Rattle.iofd_words.specs.Frames.{frame_at}
 use Rattle.iofd_words.specs.Pages.{is_above_user, is_whole, page_of}

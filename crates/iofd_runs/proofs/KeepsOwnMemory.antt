@@ -1,8 +1,8 @@
 -- Every event leaves the memory objects of each file its own: only areas of one file share them.
 use Rattle.std.proofs.Common.{◌≡◌, ℕ, ◌+◌, true, None, List, not}
-use Rattle.iofd_words.specs.After.{changed, mapped_area}
-use Rattle.iofd_words.specs.Answers.{Answers}
-use Rattle.iofd_words.specs.Checks.{refusal}
+use Rattle.iofd_steps.specs.After.{changed, mapped_area}
+use Rattle.iofd_steps.specs.Answers.{Answers}
+use Rattle.iofd_refusals.specs.Checks.{refusal}
 use Rattle.iofd_words.specs.Tables.{with_tables}
 use Rattle.iofd_words.specs.World.{World}
 use Rattle.iofd_words.specs.declared.event.Event.{Event}

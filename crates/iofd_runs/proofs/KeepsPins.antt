@@ -6,10 +6,10 @@ use Rattle.std.proofs.Math.Nat.{div-add-mod}
 use Rattle.std.specs.List.{filter, list_all, list_any}
 use Rattle.std.proofs.lemmas.Bool.Decides.{nat_tests}
 use Rattle.std.proofs.lemmas.List.Folds.{list_all-append, list_any-append}
-use Rattle.iofd_words.specs.After.{changed, mapped_area, memory_object, settle}
-use Rattle.iofd_words.specs.Answers.{Answers}
+use Rattle.iofd_steps.specs.After.{changed, mapped_area, memory_object, settle}
+use Rattle.iofd_steps.specs.Answers.{Answers}
 use Rattle.iofd_words.specs.Areas.{with_area, with_phase}
-use Rattle.iofd_words.specs.Checks.{lacks_attached_page, refusal}
+use Rattle.iofd_refusals.specs.Checks.{lacks_attached_page, refusal}
 use Rattle.iofd_rows.specs.Pinned.{ArePinned, has_object, have_own_numbers}
 use Rattle.iofd_rows.specs.AccessPins.{are_in_spaces}
 use Rattle.iofd_words.specs.Pins.{are_present, frame_now, is_page, page_of_pin, pinned_frame, is_accessed, ObjectPage}

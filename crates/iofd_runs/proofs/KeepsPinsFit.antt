@@ -11,9 +11,9 @@ use Rattle.iofd_rows.proofs.PageCounts.{count-cons}
 use Rattle.iofd_runs.proofs.AccessPins.{in_without}
 use Rattle.iofd_runs.proofs.Moves.{AccessPinsMove, LessAccessPin, OneAccessPin, SameAccessPins, changed_moves}
 use Rattle.iofd_runs.specs.PinsFit.{AccessPinsFit, is_fitting_pin}
-use Rattle.iofd_words.specs.After.{changed}
-use Rattle.iofd_words.specs.Answers.{Answers}
-use Rattle.iofd_words.specs.Checks.{refusal}
+use Rattle.iofd_steps.specs.After.{changed}
+use Rattle.iofd_steps.specs.Answers.{Answers}
+use Rattle.iofd_refusals.specs.Checks.{refusal}
 use Rattle.iofd_words.specs.Pins.{has_most_pins, is_equal, is_of_access, most_pins, without_pin}
 use Rattle.iofd_words.specs.Settings.{Settings}
 use Rattle.iofd_words.specs.Tables.{with_tables}

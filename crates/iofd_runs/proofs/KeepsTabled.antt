@@ -1,9 +1,9 @@
 -- Each page table has the tables that it needs, and each row is of a page table that is there.
 use Rattle.std.proofs.Common.{◌≡◌, ℕ, true, None, List, refl, ◌∙◌}
 use Rattle.std.proofs.lemmas.List.Folds.{list_all-append}
-use Rattle.iofd_words.specs.After.{changed}
-use Rattle.iofd_words.specs.Answers.{Answers}
-use Rattle.iofd_words.specs.Checks.{refusal}
+use Rattle.iofd_steps.specs.After.{changed}
+use Rattle.iofd_steps.specs.Answers.{Answers}
+use Rattle.iofd_refusals.specs.Checks.{refusal}
 use Rattle.iofd_words.specs.Tables.{MovesTables, in_frames, kept_tables, missing_tables, with_tables}
 use Rattle.iofd_words.specs.Settings.{Settings}
 use Rattle.iofd_words.specs.World.{World, opening}

@@ -5,13 +5,13 @@ use Rattle.std.proofs.lemmas.Bool.{eqb-true}
 use Rattle.std.proofs.lemmas.Bool.Decides.{nat_tests}
 use Rattle.std.specs.List.{filter, list_all, list_any}
 use Rattle.std.proofs.lemmas.List.Folds.{list_any-append}
-use Rattle.iofd_words.specs.After.{changed}
+use Rattle.iofd_steps.specs.After.{changed}
 use Rattle.iofd_words.specs.Allowed.{allowed_of, with_allowed}
-use Rattle.iofd_words.specs.Answers.{Answers}
+use Rattle.iofd_steps.specs.Answers.{Answers}
 use Rattle.iofd_words.specs.Areas.{areas_of, is_of}
 use Rattle.iofd_words.specs.Attachments.{is_attached_to, with_attachment}
 use Rattle.iofd_words.specs.Bounds.{Bounds}
-use Rattle.iofd_words.specs.Checks.{narrows_without, refusal, unusable_in}
+use Rattle.iofd_refusals.specs.Checks.{narrows_without, refusal, unusable_in}
 use Rattle.iofd_words.specs.Files.{device_of}
 use Rattle.iofd_words.specs.Objects.{is_hwpt_over, is_object, kind_of, with_object}
 use Rattle.iofd_words.specs.Ranges.{meets_some}

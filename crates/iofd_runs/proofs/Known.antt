@@ -4,7 +4,7 @@ use Rattle.std.proofs.Common.{refl, sym, ap, ◌∙◌, arith}
 use Rattle.std.specs.List.{filter, list_all, list_any}
 use Rattle.std.proofs.lemmas.Bool.{eqb-true}
 use Rattle.std.proofs.lemmas.Bool.Decides.{nat_tests}
-use Rattle.iofd_words.specs.Checks.{bind_checks, ioas_alloc_checks}
+use Rattle.iofd_refusals.specs.Checks.{bind_checks, ioas_alloc_checks}
 use Rattle.iofd_words.specs.Files.{is_device, is_open, numbered, user_of}
 use Rattle.iofd_runs.specs.Fits.{is_known_device}
 use Rattle.iofd_words.specs.FirstTrue.{first_true}

@@ -3,10 +3,10 @@
 use Rattle.std.proofs.Common.{◌≡◌, ℕ, Bool, true, false, not, None, List, [], ◌∷◌, refl, sym, subst, arith}
 use Rattle.std.proofs.lemmas.Bool.Decides.{nat_tests}
 use Rattle.std.proofs.lemmas.Bool.{not-false}
-use Rattle.iofd_words.specs.Answers.{IsMappedAt}
+use Rattle.iofd_steps.specs.Answers.{IsMappedAt}
 use Rattle.iofd_words.specs.Areas.{areas_meet}
 use Rattle.iofd_words.specs.Bounds.{Bounds}
-use Rattle.iofd_words.specs.Checks.{choices, copy_checks, map_checks, may_choose, taken_spans, unusable_in}
+use Rattle.iofd_refusals.specs.Checks.{choices, copy_checks, map_checks, may_choose, taken_spans, unusable_in}
 use Rattle.iofd_words.specs.Copies.{placed_as}
 use Rattle.iofd_words.specs.FirstTrue.{first_true}
 use Rattle.iofd_words.specs.Pages.{is_above_sum, is_whole}

@@ -4,11 +4,11 @@ use Rattle.std.proofs.Common.{Option, Some, None, is_some, List, [], ◌∷◌, 
 use Rattle.std.specs.List.{find, list_all, list_any, range_with_len}
 use Rattle.std.proofs.lemmas.Bool.Decides.{nat_tests}
 use Rattle.std.proofs.lemmas.Bool.{eqb-false, eqb-true, not-false}
-use Rattle.iofd_words.specs.After.{mapped_area, memory_object}
-use Rattle.iofd_words.specs.Checks.{has_pages, lacks_mapped_page, map_checks}
+use Rattle.iofd_steps.specs.After.{mapped_area, memory_object}
+use Rattle.iofd_refusals.specs.Checks.{lacks_mapped_page, map_checks}
 use Rattle.iofd_words.specs.Files.{user_of}
 use Rattle.iofd_words.specs.FirstTrue.{first_true}
-use Rattle.iofd_words.specs.Frames.{frame_at}
+use Rattle.iofd_words.specs.Frames.{frame_at, has_pages}
 use Rattle.iofd_words.specs.Objects.{has_hwpt}
 use Rattle.iofd_words.specs.Pages.{page_of}
 use Rattle.iofd_words.specs.Areas.{with_area}

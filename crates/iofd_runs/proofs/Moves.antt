@@ -20,15 +20,15 @@ use Rattle.iofd_runs.proofs.NotRefused.{access_create_passed, access_attach_pass
 use Rattle.iofd_runs.proofs.TableEvents.{HwptsStay, MakesNone, TakesNone, closed_stay, destroyed_stay, detached_stay}
 use Rattle.iofd_runs.proofs.TableEvents.{finds_table, leaving_live, paid_live, unbound_stay}
 use Rattle.iofd_runs.proofs.Served.{IsServed, joined_served, made_served}
-use Rattle.iofd_words.specs.After.{attached, changed, copy_changes, detached, hwpt_changes, joined, made_hwpt}
-use Rattle.iofd_words.specs.After.{map_changes, mapped_area, memory_object, settle, with_hwpt, without_areas}
-use Rattle.iofd_words.specs.After.{device_flushed, unmapped}
+use Rattle.iofd_steps.specs.After.{attached, changed, copy_changes, detached, hwpt_changes, joined, made_hwpt}
+use Rattle.iofd_steps.specs.After.{map_changes, mapped_area, memory_object, settle, with_hwpt, without_areas}
+use Rattle.iofd_steps.specs.After.{device_flushed, unmapped}
 use Rattle.iofd_words.specs.Allowed.{AllowedRanges, allowed_of, with_allowed}
-use Rattle.iofd_words.specs.Answers.{Answers, IsHwptFor, IsHwptOf}
+use Rattle.iofd_steps.specs.Answers.{Answers, IsHwptFor, IsHwptOf}
 use Rattle.iofd_words.specs.Areas.{is_of, is_touched, with_area, with_phase, all_paid, paid}
 use Rattle.iofd_words.specs.Attachments.{attachment_of, with_attachment, without_attachment}
 use Rattle.iofd_words.specs.Bounds.{Bounds}
-use Rattle.iofd_words.specs.Checks.{lacks_room_for_hwpt, narrows, narrows_by_width, narrows_without, refusal}
+use Rattle.iofd_refusals.specs.Checks.{lacks_room_for_hwpt, narrows, narrows_by_width, narrows_without, refusal}
 use Rattle.iofd_words.specs.Usable.{beyond, reserved_by}
 use Rattle.iofd_words.specs.Pages.{is_above_user}
 use Rattle.iofd_words.specs.Copies.{placed_as}

@@ -7,18 +7,19 @@ use Rattle.iofd_words.specs.Allowed.{are_ranges}
 use Rattle.iofd_words.specs.Areas.{areas_meet, has_no_room, is_cut, is_everything, unmapped_span}
 use Rattle.iofd_words.specs.Attachments.{attachment_of}
 use Rattle.iofd_words.specs.Bounds.{Bounds}
-use Rattle.iofd_words.specs.Checks.{allow_iovas_checks, attach_checks, bind_checks, bound_attach_checks, checks}
-use Rattle.iofd_words.specs.Checks.{close_checks, copy_checks, destroy_checks, detach_checks, device_write_checks}
-use Rattle.iofd_words.specs.Checks.{flush_checks, has_other_width, hwpt_alloc_checks, ioas_alloc_checks, is_attached}
-use Rattle.iofd_words.specs.Checks.{is_device_object, is_interrupt, is_outside_usable, is_source_writable, is_used}
-use Rattle.iofd_words.specs.Checks.{lacks_attached_frames, lacks_attached_page, lacks_choice, lacks_copied_page}
-use Rattle.iofd_words.specs.Checks.{lacks_mapped_frames, lacks_mapped_page, lacks_new_tables, lacks_room_for_hwpt}
-use Rattle.iofd_words.specs.Checks.{map_checks, narrows, narrows_by_width, overlaps, passes_limit_attached}
-use Rattle.iofd_words.specs.Checks.{passes_limit_copied, passes_limit_mapped, refusal, source_of, target_checks}
-use Rattle.iofd_words.specs.Checks.{unbind_checks, unmap_checks, unusable_in, user_access_checks, user_map_checks}
-use Rattle.iofd_words.specs.Checks.{user_unmap_checks, user_write_checks}
-use Rattle.iofd_words.specs.Checks.{access_attach_checks, access_create_checks, access_detach_checks, waits_for_leaving}
-use Rattle.iofd_words.specs.Checks.{dirty_checks, dirty_enable_checks}
+use Rattle.iofd_refusals.specs.Checks.{allow_iovas_checks, attach_checks, bind_checks, bound_attach_checks, checks}
+use Rattle.iofd_refusals.specs.Checks.{close_checks, copy_checks, destroy_checks, detach_checks, device_write_checks}
+use Rattle.iofd_refusals.specs.Checks.{flush_checks, has_other_width, hwpt_alloc_checks, ioas_alloc_checks, is_attached}
+use Rattle.iofd_refusals.specs.Checks.{is_device_object, is_interrupt, is_outside_usable, is_source_writable, is_used}
+use Rattle.iofd_refusals.specs.Checks.{lacks_attached_frames, lacks_attached_page, lacks_choice, lacks_copied_page}
+use Rattle.iofd_refusals.specs.Checks.{lacks_mapped_frames, lacks_mapped_page, lacks_new_tables, lacks_room_for_hwpt}
+use Rattle.iofd_refusals.specs.Checks.{map_checks, narrows, narrows_by_width, overlaps, passes_limit_attached}
+use Rattle.iofd_refusals.specs.Checks.{passes_limit_copied, passes_limit_mapped, refusal, source_of, target_checks}
+use Rattle.iofd_refusals.specs.Checks.{unbind_checks, unmap_checks, unusable_in, user_access_checks, user_map_checks}
+use Rattle.iofd_refusals.specs.Checks.{user_unmap_checks, user_write_checks}
+use Rattle.iofd_refusals.specs.Checks.{access_attach_checks, access_create_checks, access_detach_checks}
+use Rattle.iofd_refusals.specs.Checks.{waits_for_leaving}
+use Rattle.iofd_refusals.specs.Checks.{dirty_checks, dirty_enable_checks}
 use Rattle.iofd_words.specs.Copies.{placed_as}
 use Rattle.iofd_words.specs.Files.{device_of, is_device, is_user}
 use Rattle.iofd_words.specs.FirstTrue.{first_true}

@@ -3,7 +3,7 @@ use Rattle.std.proofs.Common.{◌≡◌, Bool, true, false, ◌&&◌, not, eqb, 
 use Rattle.std.specs.List.{filter, list_any}
 use Rattle.iofd_words.specs.Areas.{is_of}
 use Rattle.iofd_words.specs.Attachments.{has_device_on, ioas_of}
-use Rattle.iofd_words.specs.Checks.{is_used}
+use Rattle.iofd_refusals.specs.Checks.{is_used}
 use Rattle.iofd_words.specs.Objects.{is_bound_device, is_hwpt_over, is_object, kind_of, without_device_object}
 use Rattle.iofd_words.specs.Objects.{has_access_to}
 use Rattle.iofd_words.specs.View.{view}

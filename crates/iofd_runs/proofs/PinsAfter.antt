@@ -6,10 +6,10 @@ use Rattle.iofd_runs.proofs.KeepsPins.{accesses_kept}
 use Rattle.iofd_runs.proofs.Moves.{AccessPinsMove, LessAccessPin, OneAccessPin, SameAccessPins}
 use Rattle.iofd_runs.proofs.Moves.{changed_moves}
 use Rattle.iofd_runs.proofs.PagesToPin.{AccessedAlike}
-use Rattle.iofd_words.specs.After.{changed}
-use Rattle.iofd_words.specs.Checks.{refusal}
+use Rattle.iofd_steps.specs.After.{changed}
+use Rattle.iofd_refusals.specs.Checks.{refusal}
 use Rattle.iofd_words.specs.Pins.{ObjectPage, is_accessed}
-use Rattle.iofd_words.specs.Run.{IsAnswer, Lawful, after, after_answer}
+use Rattle.iofd_steps.specs.Run.{IsAnswer, Lawful, after, after_answer}
 use Rattle.iofd_words.specs.Tables.{with_tables}
 use Rattle.iofd_words.specs.World.{World}
 use Rattle.iofd_words.specs.declared.record.Record.{Record}

@@ -1,6 +1,6 @@
 -- No event changes the rows of tables by itself: the frames that its record takes and gives do.
 use Rattle.std.proofs.Common.{◌≡◌, ℕ}
-use Rattle.iofd_words.specs.After.{changed}
+use Rattle.iofd_steps.specs.After.{changed}
 use Rattle.iofd_words.specs.World.{World}
 use Rattle.iofd_words.specs.declared.event.Event.{Event}
 use Rattle.iofd_words.specs.declared.reply.Reply.{Reply}

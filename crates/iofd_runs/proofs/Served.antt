@@ -8,9 +8,9 @@ use Rattle.iofd_rows.proofs.OwnIds.{unused}
 use Rattle.iofd_rows.specs.Ids.{have_own_ids}
 use Rattle.iofd_runs.proofs.AttachMoves.{automatic_kind}
 use Rattle.iofd_runs.proofs.NotRefused.{JoinPassed}
-use Rattle.iofd_words.specs.After.{with_hwpt}
-use Rattle.iofd_words.specs.Answers.{IsHwptFor}
-use Rattle.iofd_words.specs.Checks.{has_other_width, narrows, narrows_without}
+use Rattle.iofd_steps.specs.After.{with_hwpt}
+use Rattle.iofd_steps.specs.Answers.{IsHwptFor}
+use Rattle.iofd_refusals.specs.Checks.{has_other_width, narrows, narrows_without}
 use Rattle.iofd_words.specs.Files.{device_of}
 use Rattle.iofd_words.specs.Objects.{automatic_hwpt, is_automatic_over, kind_of}
 use Rattle.iofd_words.specs.Settings.{DeviceSettings}

@@ -4,8 +4,8 @@ use Rattle.std.proofs.Common.{length, ◌≡◌, ℕ, ◌-◌, map, Bool, true, 
 use Rattle.std.proofs.Common.{Some, None, List, [], ◌∷◌, refl, ap, sym, ◌∙◌, ⊎_elim, subst}
 use Rattle.std.specs.List.{filter, flat_map, list_all, list_any}
 use Rattle.std.proofs.lemmas.List.Folds.{list_all-append}
-use Rattle.iofd_words.specs.After.{changed}
-use Rattle.iofd_words.specs.Answers.{Answers}
+use Rattle.iofd_steps.specs.After.{changed}
+use Rattle.iofd_steps.specs.Answers.{Answers}
 use Rattle.iofd_words.specs.Areas.{all_paid, areas_of, is_of, paid, with_phase}
 use Rattle.iofd_words.specs.Levels.{levels_of}
 use Rattle.iofd_words.specs.Objects.{is_hwpt, kind_of, with_object, with_access}

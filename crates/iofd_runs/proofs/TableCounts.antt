@@ -9,7 +9,7 @@ use Rattle.std.proofs.lemmas.List.Elements.{filter-append}
 use Rattle.std.proofs.lemmas.List.Folds.{list_all-append}
 use Rattle.std.proofs.lemmas.List.Sums.{sum_by-cons}
 use Rattle.iofd_words.specs.Areas.{all_paid, areas_of, is_of, with_area}
-use Rattle.iofd_words.specs.Checks.{tables_lacked}
+use Rattle.iofd_refusals.specs.Checks.{tables_lacked}
 use Rattle.iofd_words.specs.Levels.{levels_of}
 use Rattle.iofd_words.specs.Objects.{comes_before, is_fresh, is_hwpt_over, kind_of, with_object}
 use Rattle.iofd_words.specs.Settings.{is_between}

@@ -2,7 +2,7 @@
 use Rattle.std.proofs.Common.{◌≡◌, ℕ, Bool, true, false, cond, ◌&&◌, ◌||◌, not, eqb, is_some, Option}
 use Rattle.std.proofs.Common.{Some, None, List, refl, ap, sym, ◌∙◌, subst, ltb, ◌+◌}
 use Rattle.std.specs.List.{filter, find, list_all, list_any}
-use Rattle.iofd_words.specs.After.{attached, goes_with}
+use Rattle.iofd_steps.specs.After.{attached, goes_with}
 use Rattle.iofd_words.specs.Areas.{leaving, paid, tried, with_tries}
 use Rattle.iofd_words.specs.Attachments.{attachment_of, without_attachment}
 use Rattle.iofd_words.specs.Files.{device_of}

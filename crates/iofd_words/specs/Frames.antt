@@ -1,8 +1,8 @@
 -- Who reaches a frame, and what its bytes are.
-use Rattle.std.specs.Prelude.{ℕ, ◌+◌, ◌-◌, Bool, ◌==◌, ◌&&◌, ◌||◌, not, nat_le, nat_lt, Option}
+use Rattle.std.specs.Prelude.{ℕ, ◌+◌, ◌-◌, Bool, ◌==◌, ◌&&◌, ◌||◌, not, nat_le, nat_lt, Option, is_some}
 use Rattle.std.specs.Prelude.{Some, None, List, []}
 use Rattle.std.specs.Prelude.{◌∷◌, length, map, filter, find, slice_index, if◌then◌else◌}
-use Rattle.std.specs.List.{count_by, list_any, range_with_len}
+use Rattle.std.specs.List.{count_by, list_all, list_any, range_with_len}
 use Rattle.iofd_words.specs.declared.numbers.FrameNo.{FrameNo}
 use Rattle.iofd_words.specs.declared.numbers.UserNo.{UserNo}
 use Rattle.iofd_words.specs.declared.rows.UserPage.{UserPage}
@@ -13,6 +13,10 @@ use Rattle.iofd_words.specs.declared.rows.TableFrame.{TableFrame}
 abbrev pub frame_at : List UserPage → UserNo → ℕ → Option FrameNo
 frame_at pages user page =
     elim (find (λ p. p.user.0 == user.0 && p.page == page) pages) [ Some p ↦ Some p.frame | None ↦ None ]
+
+-- the pages from this one on, so many of them, are in the user's memory, by a look-up of the frames of its pages
+abbrev pub has_pages : (UserNo → ℕ → Option FrameNo) → UserNo → ℕ → ℕ → Bool
+has_pages frame_at user page count = list_all (λ i. is_some (frame_at user (page + i))) (range_with_len 0 count)
 
 -- the users' memory without this page
 abbrev pub without_page : List UserPage → UserNo → ℕ → List UserPage

@@ -1,12 +1,9 @@
 pub mod Accesses
-pub mod After
 pub mod Allowed
-pub mod Answers
 pub mod Areas
 pub mod Attachments
 pub mod Bounds
 pub mod Burst
-pub mod Checks
 pub mod Copies
 pub mod DeviceSet
 pub mod Dirty
@@ -18,7 +15,6 @@ pub mod Fits
 pub mod Frames
 pub mod Levels
 pub mod Limits
-pub mod Look
 pub mod Objects
 pub mod Pages
 pub mod Pins
@@ -27,7 +23,6 @@ pub mod Ranges
 pub mod Refusal
 pub mod Rights
 pub mod Room
-pub mod Run
 pub mod Settings
 pub mod Sorted
 pub mod Span

@@ -234,6 +234,13 @@ impl<A: Allocator> Config<A> {
         })
     }
 
+    /// What holds of every configuration: it is within its limits. The call does nothing else.
+    pub fn facts(&self)
+        ensures { first_outside self.now ≡ None }
+    {
+        let _ = &self.pool;
+    }
+
     /// How many frames the pool has, 1 to 4096.
     pub fn pool(&self) -> u32
         ensures value { result ≡ self.now.pool }

@@ -71,6 +71,14 @@ impl Span {
         self.last
     }
 
+    /// What holds of every span: it begins no later than it ends, and at numbers of 64 bits. The call does nothing else.
+    pub fn facts(self)
+        ensures ordered { self.first ≤ self.last }
+        ensures end { self.last < 2 ^ 64 }
+    {
+        let _ = &self.last;
+    }
+
     /// Whether the number is one of them.
     pub fn holds(self, number: u64) -> bool
         ensures { result ≡ holds self number }

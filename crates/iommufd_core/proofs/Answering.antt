@@ -4,10 +4,10 @@ use Rattle.std.proofs.Common.{◌≡◌, ℕ, true, false, not, Option, Some, No
 use Rattle.std.specs.List.{list_all}
 use Rattle.std.specs.Prelude.{IsTrue}
 use Rattle.std.specs.Result.{IfOk, OnErr}
-use Rattle.iofd_words.specs.After.{changed}
-use Rattle.iofd_words.specs.Answers.{Answers}
-use Rattle.iofd_words.specs.Checks.{refusal}
-use Rattle.iofd_words.specs.Run.{IsAnswer, Lawful, MovesFrames, after, after_answer}
+use Rattle.iofd_steps.specs.After.{changed}
+use Rattle.iofd_steps.specs.Answers.{Answers}
+use Rattle.iofd_refusals.specs.Checks.{refusal}
+use Rattle.iofd_steps.specs.Run.{IsAnswer, Lawful, MovesFrames, after, after_answer}
 use Rattle.iofd_words.specs.Tables.{MovesTables, is_orphan, may_go, with_tables}
 use Rattle.iofd_words.specs.View.{View, view}
 use Rattle.iofd_words.specs.World.{World}

@@ -4,10 +4,10 @@ use Rattle.std.proofs.Common.{◌++◌, length, refl, sym, ◌∙◌, subst}
 use Rattle.std.specs.List.{list_any}
 use Rattle.std.specs.Option.{option_map}
 use Rattle.iofd_rows.proofs.Bools.{and_true}
-use Rattle.iofd_words.specs.After.{changed}
-use Rattle.iofd_words.specs.Checks.{refusal}
+use Rattle.iofd_steps.specs.After.{changed}
+use Rattle.iofd_refusals.specs.Checks.{refusal}
 use Rattle.iofd_words.specs.Policy.{outcomes}
-use Rattle.iofd_words.specs.Run.{IsAnswer, IsRun, Lawful, after, after_answer, world_of}
+use Rattle.iofd_steps.specs.Run.{IsAnswer, IsRun, Lawful, after, after_answer, world_of}
 use Rattle.iofd_words.specs.Tables.{with_tables}
 use Rattle.iofd_words.specs.World.{World}
 use Rattle.iofd_words.specs.declared.event.Event.{Event}

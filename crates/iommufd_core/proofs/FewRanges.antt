@@ -15,7 +15,7 @@ use Rattle.iofd_words.specs.Attachments.{is_attached_to}
 use Rattle.iofd_words.specs.Bounds.{Bounds}
 use Rattle.iofd_words.specs.Files.{device_of, is_device, numbered}
 use Rattle.iofd_words.specs.Limits.{first_outside}
-use Rattle.iofd_words.specs.Look.{AreUsableRanges}
+use Rattle.iofd_steps.specs.Look.{AreUsableRanges}
 use Rattle.iofd_words.specs.Objects.{is_hwpt_over}
 use Rattle.iofd_words.specs.Ranges.{AreMergedFrom, in_spans}
 use Rattle.iofd_words.specs.Settings.{DeviceSettings, Settings, is_device_in_limits, is_reserved_span}

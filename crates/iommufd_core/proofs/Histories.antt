@@ -16,7 +16,7 @@ use Rattle.iofd_runs.specs.Apart.{are_apart}
 use Rattle.iofd_runs.specs.Few.{RowsFew}
 use Rattle.iofd_runs.specs.Fits.{RowsFit}
 use Rattle.iofd_runs.specs.PinsFit.{AccessPinsFit}
-use Rattle.iofd_words.specs.Run.{IsRun, world_of}
+use Rattle.iofd_steps.specs.Run.{IsRun, world_of}
 use Rattle.iofd_words.specs.Settings.{Settings}
 use Rattle.iofd_words.specs.Tables.{with_tables}
 use Rattle.iofd_words.specs.View.{view}

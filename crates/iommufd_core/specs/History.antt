@@ -1,10 +1,10 @@
 -- What a core is seen as: what it was opened with, and its records.
 use Rattle.std.specs.Prelude.{◌≡◌, Bool, true, false, Option, Some, None, List, []}
 use Rattle.std.specs.Prelude.{◌∷◌, ◌++◌, length}
-use Rattle.iofd_words.specs.After.{changed}
-use Rattle.iofd_words.specs.Checks.{refusal}
-use Rattle.iofd_words.specs.Look.{passes_in}
-use Rattle.iofd_words.specs.Run.{world_of}
+use Rattle.iofd_steps.specs.After.{changed}
+use Rattle.iofd_refusals.specs.Checks.{refusal}
+use Rattle.iofd_steps.specs.Look.{passes_in}
+use Rattle.iofd_steps.specs.Run.{world_of}
 use Rattle.iofd_words.specs.Settings.{Settings}
 use Rattle.iofd_words.specs.World.{World}
 use Rattle.iofd_words.specs.declared.event.Event.{Event}

@@ -1,7 +1,7 @@
 -- What holds of a core's fields: its records are a run, its state shows the world that they leave, no table is idle
 -- there, and each device's turns among them are counted.
 use Rattle.std.specs.Prelude.{ℕ, List}
-use Rattle.iofd_words.specs.Run.{IsRun, world_of}
+use Rattle.iofd_steps.specs.Run.{IsRun, world_of}
 use Rattle.iofd_words.specs.declared.record.Record.{Record}
 use Rattle.iommufd_core.specs.TurnCounts.{AreTurns}
 use Rattle.server_state.specs.Choice.{NoneIdle}

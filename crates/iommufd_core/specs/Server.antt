@@ -1,13 +1,13 @@
 -- What a core is seen as.
 use Rattle.std.specs.Prelude.{◌≡◌, ◌<◌, ◌⊎◌, ℕ, Bool, true, false, None, IsTrue, length, nat_lt}
 use Rattle.iofd_words.specs.Allowed.{ranges_of}
-use Rattle.iofd_words.specs.Checks.{refusal}
+use Rattle.iofd_refusals.specs.Checks.{refusal}
 use Rattle.iofd_words.specs.Objects.{has_hwpt}
 use Rattle.iofd_words.specs.View.{View, view}
 use Rattle.iofd_words.specs.declared.event.Event.{Event}
 use Rattle.iofd_words.specs.declared.event.Event.TheVariants as event
 use Rattle.event_device_access.specs.Tracked.{tracks_writes_of}
-use Rattle.hwpt_device.specs.Attaching.{takes_its_table}
+use Rattle.hwpt_device_attach.specs.Attaching.{takes_its_table}
 use Rattle.iommufd_core.specs.History.{History, world}
 use Rattle.server_state.specs.Tables.{has_page_table, has_page_tables}
 

@@ -2,10 +2,10 @@
 
 ghost use Rattle.std.specs.Prelude.{◌≡◌, ◌<◌, ◌^◌, [], IfOk, IsTrue, OnErr, length, None};
 ghost use Rattle.iofd_words.specs.Accesses.{notices};
-ghost use Rattle.iofd_words.specs.Checks as checks;
+ghost use Rattle.iofd_refusals.specs.Checks as checks;
 ghost use Rattle.iofd_words.specs.FirstTrue.{first_true};
-ghost use Rattle.iofd_words.specs.Look.{AreUsableRanges, answers_to, notices_checks, passes_in, ranges_checks};
-ghost use Rattle.iofd_words.specs.Run.{IsRun};
+ghost use Rattle.iofd_steps.specs.Look.{AreUsableRanges, answers_to, notices_checks, passes_in, ranges_checks};
+ghost use Rattle.iofd_steps.specs.Run.{IsRun};
 ghost use Rattle.server_state.specs.Choice.{IsChosen, IsLooked};
 ghost use Rattle.iommufd_core.specs.History.{HasOneMore, may_apply, may_look, world};
 ghost use Rattle.iommufd_core.specs.Refused.{refused_cause};
@@ -95,7 +95,7 @@ impl<A: Allocator + Copy> Core<A> {
             → IsChosen (world self.old.history) act.now.event act.now.via stamp.reply) }
 
         // Want of memory comes only where the record has no place, to an event that carries a list, or to one that
-        // nothing refuses and by which something comes, a page table goes or a page is marked. It changes nothing.
+        // nothing refuses and by which something comes, tables may go or a page is marked. It changes nothing.
         ensures memory { OnErr result (MayWant self.old act.now.event) }
         ensures unchanged { OnErr result (self.new.history ≡ self.old.history) }
     {
@@ -136,8 +136,8 @@ impl<A: Allocator + Copy> Core<A> {
         ensures ranges { IfOk result (λ set. AreUsableRanges (view (world self.now.history)) file ioas set.spans) }
         ensures few { IfOk result (λ set. length set.spans < 2 ^ 32) }
     {
-        // Its clause says that the configuration is within its limits: so there are few ranges.
-        let _ = self.state.config.pool();
+        // It is within its limits: so there are few ranges.
+        self.state.config.facts();
         ranges::usable_ranges(&self.state, file, ioas)
     }
 

@@ -1,7 +1,7 @@
 //! Each event, refused or carried out.
 
 ghost use Rattle.std.specs.Prelude.{◌≡◌, true, None, [], IfOk, IsTrue, OnErr};
-ghost use Rattle.iofd_words.specs.Checks.{checks};
+ghost use Rattle.iofd_refusals.specs.Checks.{checks};
 ghost use Rattle.iofd_words.specs.FirstTrue.{first_true};
 ghost use Rattle.server_state.specs.Seen.{seen};
 ghost use Rattle.iommufd_core.specs.Server.{is_in_place, takes_memory};
@@ -18,8 +18,8 @@ use event_ioas::{allow_iovas, ioas_alloc};
 use event_map::{copy, map};
 use event_unmap::unmap;
 use event_user_memory::{user_map, user_unmap, user_write};
-use hwpt_device::{bind, detach, flush, unbind};
-use hwpt_device_attach::{attach, hwpt_alloc};
+use hwpt_device::{bind, unbind};
+use hwpt_device_attach::{attach, detach, flush, hwpt_alloc};
 use iofd_words::{Act, Cause, Event, FrameNo, NoMemory, Refusal, Reply};
 use server_state::State;
 use std::alloc::Allocator;

@@ -4,7 +4,7 @@ ghost use Rattle.std.specs.Prelude.{◌≡◌, ℕ, IsTrue, List, None};
 ghost use Rattle.std.specs.Option.{option_map};
 ghost use Rattle.iofd_words.specs.Attachments.{attachment_of};
 ghost use Rattle.iofd_words.specs.FirstTrue.{first_true};
-ghost use Rattle.iofd_words.specs.Look.{answers_in, lawful_answers, query_checks};
+ghost use Rattle.iofd_steps.specs.Look.{answers_in, lawful_answers, query_checks};
 ghost use Rattle.iofd_words.specs.View.{view};
 ghost use Rattle.iofd_words.specs.World.{World};
 ghost use Rattle.iofd_words.specs.declared.query.Query.TheVariants as queries;

@@ -2,7 +2,7 @@
 
 ghost use Rattle.std.specs.Prelude.{◌≡◌, IfOk};
 ghost use Rattle.iofd_words.specs.FirstTrue.{first_true};
-ghost use Rattle.iofd_words.specs.Look.{AreUsableRanges, ranges_checks};
+ghost use Rattle.iofd_steps.specs.Look.{AreUsableRanges, ranges_checks};
 ghost use Rattle.server_state.specs.Seen.{seen};
 ghost use Rattle.iommufd_core.specs.Refused.{refused_cause};
 

@@ -1,7 +1,7 @@
 -- What a record's tags and fields tell, and whether it is lawful.
 use Rattle.std.proofs.Common.{◌≡◌, ℕ, Bool, true, false, Some, None, List, ◌++◌, refl, sym, ap, ◌∙◌, subst}
 use Rattle.std.proofs.Common.{Result, Ok, Err, IfOk, IsTrue}
-use Rattle.iofd_words.specs.Run.{Lawful, after}
+use Rattle.iofd_steps.specs.Run.{Lawful, after}
 use Rattle.iofd_words.specs.Settings.{Settings}
 use Rattle.iofd_words.specs.World.{World}
 use Rattle.iofd_words.specs.declared.event.Event.{Event}

@@ -2,7 +2,7 @@
 use Rattle.std.proofs.Common.{◌≡◌, ◌≢◌, ◌⊎◌, inl, inr, ℕ, zero, suc, ◌+◌, Some, List, [], ◌∷◌, ◌++◌, length, refl, sym}
 use Rattle.std.proofs.Common.{ap}
 use Rattle.std.proofs.Common.{◌∙◌, subst, arith, append_assoc, Result, Ok, Err, IfOk}
-use Rattle.iofd_words.specs.Run.{IsRun, IsRunFrom, Lawful, after, world_from, world_of}
+use Rattle.iofd_steps.specs.Run.{IsRun, IsRunFrom, Lawful, after, world_from, world_of}
 use Rattle.iofd_words.specs.Settings.{Settings}
 use Rattle.iofd_words.specs.World.{World, opening}
 use Rattle.iofd_words.specs.declared.record.Record.{Record}

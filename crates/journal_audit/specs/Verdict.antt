@@ -1,6 +1,6 @@
 -- What an auditor's word means of the bytes that it was given.
 use Rattle.std.specs.Prelude.{◌≡◌, ◌≢◌, ℕ, zero, suc, ◌+◌, List, [], ◌++◌, length}
-use Rattle.iofd_words.specs.Run.{IsRun, Lawful, world_of}
+use Rattle.iofd_steps.specs.Run.{IsRun, Lawful, world_of}
 use Rattle.iofd_words.specs.Settings.{Settings}
 use Rattle.iofd_words.specs.declared.record.Record.{Record}
 use Rattle.journal_audit.specs.declared.verdict.Verdict.{Verdict}

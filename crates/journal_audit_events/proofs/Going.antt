@@ -16,12 +16,12 @@ use Rattle.iofd_runs.proofs.KeepsPins.{accesses_kept}
 use Rattle.iofd_runs.proofs.NotRefused.{not_not}
 use Rattle.iofd_runs.proofs.PagesToPin.{AccessedAlike, gone_within}
 use Rattle.iofd_words.specs.Accesses.{pin_of}
-use Rattle.iofd_words.specs.After.{changed, detach_changes, detached, goes_with, settle, tracked_without, without_areas}
+use Rattle.iofd_steps.specs.After.{changed, detach_changes, detached, goes_with, settle, tracked_without, without_areas}
 use Rattle.iofd_words.specs.Allowed.{AllowedRanges, without_allowed}
-use Rattle.iofd_words.specs.Answers.{Answers}
+use Rattle.iofd_steps.specs.Answers.{Answers}
 use Rattle.iofd_words.specs.Areas.{all_paid, is_of, paid}
 use Rattle.iofd_words.specs.Attachments.{attachment_of, has_device_on, ioas_of, without_attachment}
-use Rattle.iofd_words.specs.Checks.{refusal}
+use Rattle.iofd_refusals.specs.Checks.{refusal}
 use Rattle.iofd_words.specs.Dirty.{TrackedTable, without_tracked}
 use Rattle.iofd_words.specs.Objects.{has_hwpt, is_automatic, is_hwpt_over, is_object, kind_of, without_object}
 use Rattle.iofd_words.specs.Pins.{is_pinned, page_of_pin, without_pin}

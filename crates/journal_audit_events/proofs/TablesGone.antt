@@ -9,8 +9,8 @@ use Rattle.iofd_rows.proofs.Named.{file_is, id_is, kind_kept, kind_only}
 use Rattle.iofd_rows.specs.Ids.{have_own_ids}
 use Rattle.iofd_runs.proofs.MissingTables.{is_owned}
 use Rattle.iofd_runs.proofs.StillTabled.{owned_after}
-use Rattle.iofd_words.specs.After.{changed, detach_changes, detached, goes_with, settle, without_areas}
-use Rattle.iofd_words.specs.Answers.{Answers}
+use Rattle.iofd_steps.specs.After.{changed, detach_changes, detached, goes_with, settle, without_areas}
+use Rattle.iofd_steps.specs.Answers.{Answers}
 use Rattle.iofd_words.specs.Attachments.{attachment_of, has_device_on, without_attachment}
 use Rattle.iofd_words.specs.Objects.{is_automatic, is_hwpt, is_object, kind_of}
 use Rattle.iofd_words.specs.TablePlaces.{is_table_of}

@@ -1,7 +1,7 @@
 -- Events after which the world is the same but for what was written, and answers to a device's write and to a report.
 use Rattle.std.proofs.Common.{◌≡◌, ℕ, Bool, List, Result, IfOk, refl, sym, subst, ap, ◌∙◌}
-use Rattle.iofd_words.specs.After.{changed}
-use Rattle.iofd_words.specs.Answers.{Answers, AnswersDirty}
+use Rattle.iofd_steps.specs.After.{changed}
+use Rattle.iofd_steps.specs.Answers.{Answers, AnswersDirty}
 use Rattle.iofd_words.specs.Dirty.{reported_words}
 use Rattle.iofd_words.specs.World.{World}
 use Rattle.iofd_words.specs.declared.event.DirtyRequest.{DirtyRequest}

@@ -15,7 +15,7 @@ use Rattle.iofd_runs.proofs.Runs.{tests_false}
 use Rattle.iofd_words.specs.Accesses.{pin_of, pinned_span}
 use Rattle.iofd_words.specs.Areas.{is_of}
 use Rattle.iofd_words.specs.Bounds.{Bounds}
-use Rattle.iofd_words.specs.Checks.{access_unpin_checks}
+use Rattle.iofd_refusals.specs.Checks.{access_unpin_checks}
 use Rattle.iofd_words.specs.FirstTrue.{first_true}
 use Rattle.iofd_words.specs.Objects.{access_ioas, access_ioas_of, is_access_to, kind_of}
 use Rattle.iofd_words.specs.Pins.{ObjectPage, covers_page, is_accessed, is_equal, is_pin_in, is_pinned, page_of_pin}

@@ -4,7 +4,7 @@ use Rattle.std.proofs.Common.{Contains, sym, subst, ◌⊎◌}
 use Rattle.std.proofs.Common.{inl, inr, ⊎_elim, arith}
 use Rattle.iofd_rows.proofs.Each.{IsIn}
 use Rattle.iofd_rows.proofs.ListTests.{contains_first, contains_later}
-use Rattle.iofd_words.specs.Answers.{write_reply}
+use Rattle.iofd_steps.specs.Answers.{write_reply}
 use Rattle.iofd_words.specs.Policy.{Outcome, fault_of, outcomes, passing}
 use Rattle.iofd_words.specs.Settings.{Settings}
 use Rattle.iofd_words.specs.World.{World}

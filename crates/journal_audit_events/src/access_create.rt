@@ -1,8 +1,8 @@
 //! AccessCreate: a file gets an access object, which is attached to nothing.
 
 ghost use Rattle.std.specs.Prelude.{◌≡◌, ℕ, IfOk};
-ghost use Rattle.iofd_words.specs.After.{changed};
-ghost use Rattle.iofd_words.specs.Checks.{access_create_checks};
+ghost use Rattle.iofd_steps.specs.After.{changed};
+ghost use Rattle.iofd_refusals.specs.Checks.{access_create_checks};
 ghost use Rattle.iofd_words.specs.FirstTrue.{first_true};
 ghost use Rattle.iofd_words.specs.View.{view};
 ghost use Rattle.iofd_words.specs.declared.event.Event.TheVariants as event;
@@ -13,7 +13,7 @@ use journal_audit_world::{World, objects};
 use std::alloc::Allocator;
 
 /// Why it is refused, if it is.
-#[tactic(auto, unfolding(iofd_words::specs::Checks::access_create_checks))]
+#[tactic(auto, unfolding(iofd_refusals::specs::Checks::access_create_checks))]
 pub fn refusal<A: Allocator>(world: &World<A>, file: FileNo) -> Option<Cause>
     ensures { result ≡ first_true (access_create_checks (view world.now) file) }
 {
@@ -27,7 +27,7 @@ pub fn refusal<A: Allocator>(world: &World<A>, file: FileNo) -> Option<Cause>
 }
 
 /// What comes of it. Its only error is want of memory.
-#[tactic(auto, unfolding(iofd_words::specs::After::changed))]
+#[tactic(auto, unfolding(iofd_steps::specs::After::changed))]
 pub fn change<A: Allocator>(
     world: &mut World<A>,
     file: FileNo,

@@ -1,8 +1,8 @@
 //! AccessDetach: an access object is attached to nothing any more.
 
 ghost use Rattle.std.specs.Prelude.{◌≡◌, ℕ};
-ghost use Rattle.iofd_words.specs.After.{changed};
-ghost use Rattle.iofd_words.specs.Checks.{access_detach_checks};
+ghost use Rattle.iofd_steps.specs.After.{changed};
+ghost use Rattle.iofd_refusals.specs.Checks.{access_detach_checks};
 ghost use Rattle.iofd_words.specs.FirstTrue.{first_true};
 ghost use Rattle.iofd_words.specs.View.{view};
 ghost use Rattle.iofd_words.specs.declared.event.Event.TheVariants as event;
@@ -13,7 +13,7 @@ use journal_audit_world::{World, access_pins, objects};
 use std::alloc::Allocator;
 
 /// Why it is refused, if it is.
-#[tactic(auto, unfolding(iofd_words::specs::Checks::access_detach_checks))]
+#[tactic(auto, unfolding(iofd_refusals::specs::Checks::access_detach_checks))]
 pub fn refusal<A: Allocator>(world: &World<A>, file: FileNo, id: ObjId) -> Option<Cause>
     ensures { result ≡ first_true (access_detach_checks (view world.now) file id) }
 {
@@ -33,7 +33,7 @@ pub fn refusal<A: Allocator>(world: &World<A>, file: FileNo, id: ObjId) -> Optio
 }
 
 /// What comes of it.
-#[tactic(auto, unfolding(iofd_words::specs::After::changed))]
+#[tactic(auto, unfolding(iofd_steps::specs::After::changed))]
 pub fn change<A: Allocator>(world: &mut World<A>, file: FileNo, id: ObjId, reply: Reply)
     ensures { (at : ℕ) →
         unwritten world.new ≡ unwritten (changed {A = A} at world.old (event.AccessDetach file id) reply) }

@@ -1,8 +1,8 @@
 //! AccessUnpin: an access object lets a pin go.
 
 ghost use Rattle.std.specs.Prelude.{◌≡◌, None, IfOk};
-ghost use Rattle.iofd_words.specs.After.{changed};
-ghost use Rattle.iofd_words.specs.Checks.{access_unpin_checks, refusal};
+ghost use Rattle.iofd_steps.specs.After.{changed};
+ghost use Rattle.iofd_refusals.specs.Checks.{access_unpin_checks, refusal};
 ghost use Rattle.iofd_words.specs.FirstTrue.{first_true};
 ghost use Rattle.iofd_words.specs.View.{view};
 ghost use Rattle.iofd_words.specs.declared.event.Event.TheVariants as event;
@@ -15,7 +15,7 @@ use journal_audit_world::{World, access_pins, keeping, objects, over};
 use std::alloc::Allocator;
 
 /// Why it is refused, if it is.
-#[tactic(auto, unfolding(iofd_words::specs::Checks::access_unpin_checks))]
+#[tactic(auto, unfolding(iofd_refusals::specs::Checks::access_unpin_checks))]
 pub fn refusal<A: Allocator>(
     world: &World<A>,
     file: FileNo,
@@ -41,7 +41,7 @@ pub fn refusal<A: Allocator>(
 
 /// What comes of it, where nothing refuses it, at this position: pages that nothing else pins aren't pinned any more.
 /// Its only error is want of memory.
-#[tactic(auto, unfolding(iofd_words::specs::After::changed))]
+#[tactic(auto, unfolding(iofd_steps::specs::After::changed))]
 pub fn change<A: Allocator + Copy>(
     alloc: A,
     at: u64,

@@ -2,7 +2,7 @@
 //! written.
 
 ghost use Rattle.std.specs.Prelude.{◌≡◌};
-ghost use Rattle.iofd_words.specs.Checks.{access_write_checks};
+ghost use Rattle.iofd_refusals.specs.Checks.{access_write_checks};
 ghost use Rattle.iofd_words.specs.FirstTrue.{first_true};
 ghost use Rattle.iofd_words.specs.Pins.{is_covered};
 ghost use Rattle.iofd_words.specs.View.{view};
@@ -12,7 +12,7 @@ use journal_audit_world::{World, access_pins, objects, pages};
 use std::alloc::Allocator;
 
 /// Why it is refused, if it is.
-#[tactic(auto, unfolding(iofd_words::specs::Checks::access_write_checks))]
+#[tactic(auto, unfolding(iofd_refusals::specs::Checks::access_write_checks))]
 pub fn refusal<A: Allocator>(
     world: &World<A>,
     file: FileNo,

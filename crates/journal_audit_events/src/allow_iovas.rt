@@ -1,9 +1,9 @@
 //! ALLOW_IOVAS: the ranges to which addresses that the server chooses are bounded.
 
 ghost use Rattle.std.specs.Prelude.{◌≡◌, ℕ, IfOk};
-ghost use Rattle.iofd_words.specs.After.{changed};
+ghost use Rattle.iofd_steps.specs.After.{changed};
 ghost use Rattle.std.specs.List.{list_any};
-ghost use Rattle.iofd_words.specs.Checks.{allow_iovas_checks, unusable_in};
+ghost use Rattle.iofd_refusals.specs.Checks.{allow_iovas_checks, unusable_in};
 ghost use Rattle.iofd_words.specs.Ranges.{meets_some};
 ghost use Rattle.iofd_words.specs.FirstTrue.{first_true};
 ghost use Rattle.iofd_words.specs.View.{view};
@@ -15,7 +15,7 @@ use journal_audit_world::{World, allowed, objects, usable};
 use std::alloc::Allocator;
 
 /// Why it is refused, if it is.
-#[tactic(auto, unfolding(iofd_words::specs::Checks::allow_iovas_checks))]
+#[tactic(auto, unfolding(iofd_refusals::specs::Checks::allow_iovas_checks))]
 pub fn refusal<A: Allocator>(
     world: &World<A>,
     file: FileNo,
@@ -59,7 +59,7 @@ fn meet_unusable<A: Allocator>(
 }
 
 /// What comes of it. Its only error is want of memory.
-#[tactic(auto, unfolding(iofd_words::specs::After::changed))]
+#[tactic(auto, unfolding(iofd_steps::specs::After::changed))]
 pub fn change<A: Allocator + Copy>(
     alloc: A,
     world: &mut World<A>,

@@ -1,7 +1,7 @@
 //! Answers of one kind.
 
 ghost use Rattle.std.specs.Prelude.{IsTrue};
-ghost use Rattle.iofd_words.specs.Answers.{AnswersDone, AnswersFrame, AnswersId};
+ghost use Rattle.iofd_steps.specs.Answers.{AnswersDone, AnswersFrame, AnswersId};
 ghost use Rattle.iofd_words.specs.Frames.{is_free};
 ghost use Rattle.iofd_words.specs.Objects.{is_fresh};
 ghost use Rattle.journal_audit_world.specs.Decides.{Decides};

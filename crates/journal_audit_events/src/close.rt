@@ -2,8 +2,8 @@
 
 ghost use Rattle.std.specs.Prelude.{◌≡◌, ◌||◌, None, IfOk};
 ghost use Rattle.std.specs.List.{list_any};
-ghost use Rattle.iofd_words.specs.After.{changed};
-ghost use Rattle.iofd_words.specs.Checks.{close_checks, refusal};
+ghost use Rattle.iofd_steps.specs.After.{changed};
+ghost use Rattle.iofd_refusals.specs.Checks.{close_checks, refusal};
 ghost use Rattle.iofd_words.specs.FirstTrue.{first_true};
 ghost use Rattle.iofd_words.specs.Objects.{is_access, is_bound_device, objects_of};
 ghost use Rattle.iofd_words.specs.View.{view};
@@ -17,7 +17,7 @@ use journal_audit_world::{World, allowed, areas, attachments, keeping, objects, 
 use std::alloc::Allocator;
 
 /// Why it is refused, if it is.
-#[tactic(auto, unfolding(iofd_words::specs::Checks::close_checks))]
+#[tactic(auto, unfolding(iofd_refusals::specs::Checks::close_checks))]
 pub fn refusal<A: Allocator>(world: &World<A>, file: FileNo) -> Option<Cause>
     ensures { result ≡ first_true (close_checks (view world.now) file) }
 {
@@ -41,7 +41,7 @@ fn has_holder(objects: &[Object], file: FileNo) -> bool
 }
 
 /// What comes of it, where nothing refuses it, at this position. Its only error is want of memory.
-#[tactic(auto, unfolding(iofd_words::specs::After::changed))]
+#[tactic(auto, unfolding(iofd_steps::specs::After::changed))]
 pub fn change<A: Allocator + Copy>(
     alloc: A,
     at: u64,

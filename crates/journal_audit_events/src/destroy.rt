@@ -1,9 +1,9 @@
 //! DESTROY: an object goes, an address space with its areas and allowed ranges.
 
 ghost use Rattle.std.specs.Prelude.{◌≡◌, ◌||◌, ℕ, None, IfOk};
-ghost use Rattle.iofd_words.specs.After.{changed};
+ghost use Rattle.iofd_steps.specs.After.{changed};
 ghost use Rattle.iofd_words.specs.Areas.{is_of};
-ghost use Rattle.iofd_words.specs.Checks.{destroy_checks, is_device_object, is_used, refusal};
+ghost use Rattle.iofd_refusals.specs.Checks.{destroy_checks, is_device_object, is_used, refusal};
 ghost use Rattle.iofd_words.specs.FirstTrue.{first_true};
 ghost use Rattle.iofd_words.specs.Objects.{kind_of};
 ghost use Rattle.iofd_words.specs.View.{view};
@@ -20,7 +20,7 @@ use journal_audit_world::{World, allowed, areas, attachments, keeping, objects, 
 use std::alloc::Allocator;
 
 /// Why it is refused, if it is.
-#[tactic(auto, unfolding(iofd_words::specs::Checks::destroy_checks))]
+#[tactic(auto, unfolding(iofd_refusals::specs::Checks::destroy_checks))]
 pub fn refusal<A: Allocator>(world: &World<A>, file: FileNo, id: ObjId) -> Option<Cause>
     ensures { result ≡ first_true (destroy_checks (view world.now) file id) }
 {
@@ -93,7 +93,7 @@ fn numbers_at<A: Allocator + Copy>(
 }
 
 /// What comes of it, where nothing refuses it, at this position. Its only error is want of memory.
-#[tactic(auto, unfolding(iofd_words::specs::After::changed))]
+#[tactic(auto, unfolding(iofd_steps::specs::After::changed))]
 pub fn change<A: Allocator + Copy>(
     alloc: A,
     at: u64,

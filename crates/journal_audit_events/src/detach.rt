@@ -2,8 +2,8 @@
 
 ghost use Rattle.std.specs.Prelude.{◌≡◌, ℕ, ◌&&◌, not, if◌then◌else◌, None, Some, IfOk};
 ghost use Rattle.std.specs.List.{list_any};
-ghost use Rattle.iofd_words.specs.After.{changed};
-ghost use Rattle.iofd_words.specs.Checks.{detach_checks, refusal};
+ghost use Rattle.iofd_steps.specs.After.{changed};
+ghost use Rattle.iofd_refusals.specs.Checks.{detach_checks, refusal};
 ghost use Rattle.iofd_words.specs.Dirty.{without_tracked};
 ghost use Rattle.iofd_words.specs.FirstTrue.{first_true};
 ghost use Rattle.iofd_words.specs.Objects.{is_automatic, is_object, kind_of};
@@ -21,7 +21,7 @@ use journal_audit_world::{World, areas, attachments, keeping, objects, over, tra
 use std::alloc::Allocator;
 
 /// Why it is refused, if it is.
-#[tactic(auto, unfolding(iofd_words::specs::Checks::detach_checks))]
+#[tactic(auto, unfolding(iofd_refusals::specs::Checks::detach_checks))]
 pub fn refusal<A: Allocator>(world: &World<A>, device: DeviceNo) -> Option<Cause>
     ensures { result ≡ first_true (detach_checks (view world.now) device) }
 {
@@ -100,7 +100,7 @@ fn stop_left<A: Allocator>(
 }
 
 /// What comes of it, where nothing refuses it, at this position. Its only error is want of memory.
-#[tactic(auto, unfolding(iofd_words::specs::After::changed))]
+#[tactic(auto, unfolding(iofd_steps::specs::After::changed))]
 pub fn change<A: Allocator + Copy>(
     alloc: A,
     at: u64,

@@ -2,9 +2,9 @@
 //! the page, where the device's page table is tracked.
 
 ghost use Rattle.std.specs.Prelude.{◌≡◌, Some, None, false, ◌&&◌, ℕ, List, IfOk};
-ghost use Rattle.iofd_words.specs.After.{changed};
-ghost use Rattle.iofd_words.specs.Answers.{Answers};
-ghost use Rattle.iofd_words.specs.Checks.{device_write_checks, is_interrupt};
+ghost use Rattle.iofd_steps.specs.After.{changed};
+ghost use Rattle.iofd_steps.specs.Answers.{Answers};
+ghost use Rattle.iofd_refusals.specs.Checks.{device_write_checks, is_interrupt};
 ghost use Rattle.iofd_words.specs.Files.{device_of};
 ghost use Rattle.iofd_words.specs.FirstTrue.{first_true};
 ghost use Rattle.iofd_words.specs.Policy.{fault_of};
@@ -24,7 +24,7 @@ use journal_audit_world::{World, attachments, objects, pages, tracked};
 use std::alloc::Allocator;
 
 /// Why it is refused, if it is.
-#[tactic(auto, unfolding(iofd_words::specs::Checks::device_write_checks))]
+#[tactic(auto, unfolding(iofd_refusals::specs::Checks::device_write_checks))]
 pub fn refusal<A: Allocator>(
     world: &World<A>,
     device: DeviceNo,
@@ -124,7 +124,7 @@ fn source_of<A: Allocator>(config: &Config<A>, device: DeviceNo) -> SourceId
 }
 
 /// What comes of it. Its only error is want of memory.
-#[tactic(auto, unfolding(iofd_words::specs::After::changed))]
+#[tactic(auto, unfolding(iofd_steps::specs::After::changed))]
 pub fn change<A: Allocator>(
     world: &mut World<A>,
     device: DeviceNo,

@@ -1,8 +1,8 @@
 //! Bind, Unbind and Flush: a device is bound to a file and taken away from it, and forgets what it had cached.
 
 ghost use Rattle.std.specs.Prelude.{◌≡◌, ℕ, IfOk};
-ghost use Rattle.iofd_words.specs.After.{changed};
-ghost use Rattle.iofd_words.specs.Checks.{bind_checks, flush_checks, is_attached, is_device_object, unbind_checks};
+ghost use Rattle.iofd_steps.specs.After.{changed};
+ghost use Rattle.iofd_refusals.specs.Checks.{bind_checks, flush_checks, is_attached, is_device_object, unbind_checks};
 ghost use Rattle.iofd_words.specs.FirstTrue.{first_true};
 ghost use Rattle.iofd_words.specs.Objects.{kind_of};
 ghost use Rattle.iofd_words.specs.View.{view};
@@ -14,7 +14,7 @@ use journal_audit_world::{World, areas, attachments, objects};
 use std::alloc::Allocator;
 
 /// Why Bind is refused, if it is.
-#[tactic(auto, unfolding(iofd_words::specs::Checks::bind_checks))]
+#[tactic(auto, unfolding(iofd_refusals::specs::Checks::bind_checks))]
 pub fn bind_refusal<A: Allocator>(world: &World<A>, file: FileNo, device: DeviceNo) -> Option<Cause>
     ensures { result ≡ first_true (bind_checks (view world.now) file device) }
 {
@@ -34,7 +34,7 @@ pub fn bind_refusal<A: Allocator>(world: &World<A>, file: FileNo, device: Device
 }
 
 /// What comes of Bind. Its only error is want of memory.
-#[tactic(auto, unfolding(iofd_words::specs::After::changed))]
+#[tactic(auto, unfolding(iofd_steps::specs::After::changed))]
 pub fn bind_change<A: Allocator>(
     world: &mut World<A>,
     file: FileNo,
@@ -52,7 +52,7 @@ pub fn bind_change<A: Allocator>(
 }
 
 /// Why Unbind is refused, if it is.
-#[tactic(auto, unfolding(iofd_words::specs::Checks::unbind_checks))]
+#[tactic(auto, unfolding(iofd_refusals::specs::Checks::unbind_checks))]
 pub fn unbind_refusal<A: Allocator>(world: &World<A>, file: FileNo, id: ObjId) -> Option<Cause>
     ensures { result ≡ first_true (unbind_checks (view world.now) file id) }
 {
@@ -91,7 +91,7 @@ fn is_attached<A: Allocator>(world: &World<A>, file: FileNo, id: ObjId) -> bool
 }
 
 /// What comes of Unbind.
-#[tactic(auto, unfolding(iofd_words::specs::After::changed))]
+#[tactic(auto, unfolding(iofd_steps::specs::After::changed))]
 pub fn unbind_change<A: Allocator>(world: &mut World<A>, file: FileNo, id: ObjId, reply: Reply)
     ensures { (at : ℕ) →
         unwritten world.new ≡ unwritten (changed {A = A} at world.old (event.Unbind file id) reply) }
@@ -102,7 +102,7 @@ pub fn unbind_change<A: Allocator>(world: &mut World<A>, file: FileNo, id: ObjId
 }
 
 /// Why Flush is refused, if it is.
-#[tactic(auto, unfolding(iofd_words::specs::Checks::flush_checks))]
+#[tactic(auto, unfolding(iofd_refusals::specs::Checks::flush_checks))]
 pub fn flush_refusal<A: Allocator>(world: &World<A>, device: DeviceNo) -> Option<Cause>
     ensures { result ≡ first_true (flush_checks (view world.now) device) }
 {
@@ -113,7 +113,7 @@ pub fn flush_refusal<A: Allocator>(world: &World<A>, device: DeviceNo) -> Option
 }
 
 /// What comes of Flush.
-#[tactic(auto, unfolding(iofd_words::specs::After::changed))]
+#[tactic(auto, unfolding(iofd_steps::specs::After::changed))]
 pub fn flush_change<A: Allocator>(world: &mut World<A>, device: DeviceNo, reply: Reply)
     ensures { (at : ℕ) →
         unwritten world.new ≡ unwritten (changed {A = A} at world.old (event.Flush device) reply) }

@@ -1,9 +1,9 @@
 //! DIRTY_REPORT that clears: tells which pages of a span were written, and takes their marks away.
 
 ghost use Rattle.std.specs.Prelude.{◌≡◌, ℕ, ◌||◌, ◌/◌, not, nat_lt, IfOk};
-ghost use Rattle.iofd_words.specs.After.{changed};
-ghost use Rattle.iofd_words.specs.Answers.{AnswersDirty};
-ghost use Rattle.iofd_words.specs.Checks.{dirty_checks};
+ghost use Rattle.iofd_steps.specs.After.{changed};
+ghost use Rattle.iofd_steps.specs.Answers.{AnswersDirty};
+ghost use Rattle.iofd_refusals.specs.Checks.{dirty_checks};
 ghost use Rattle.iofd_words.specs.Dirty.{reported_words, tracks};
 ghost use Rattle.iofd_words.specs.FirstTrue.{first_true};
 ghost use Rattle.iofd_words.specs.View.{view};
@@ -19,7 +19,7 @@ use std::alloc::Allocator;
 const MOST: u64 = 256;
 
 /// Why it is refused, if it is.
-#[tactic(auto, unfolding(iofd_words::specs::Checks::dirty_checks))]
+#[tactic(auto, unfolding(iofd_refusals::specs::Checks::dirty_checks))]
 pub fn refusal<A: Allocator>(world: &World<A>, file: FileNo, request: DirtyRequest) -> Option<Cause>
     ensures { result ≡ first_true (dirty_checks (view world.now) file request) }
 {
@@ -77,7 +77,7 @@ fn tells(words: &[u64; 4], reply: Reply) -> bool
 }
 
 /// What comes of it.
-#[tactic(auto, unfolding(iofd_words::specs::After::changed))]
+#[tactic(auto, unfolding(iofd_steps::specs::After::changed))]
 pub fn change<A: Allocator>(world: &mut World<A>, file: FileNo, request: DirtyRequest, reply: Reply)
     ensures { (at : ℕ) →
         unwritten world.new ≡ unwritten (changed {A = A} at world.old (event.DirtyClear file request) reply) }

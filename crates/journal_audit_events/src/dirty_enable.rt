@@ -1,8 +1,8 @@
 //! DIRTY_ENABLE: the pages that devices write through a page table are tracked from now on, or no more.
 
 ghost use Rattle.std.specs.Prelude.{◌≡◌, ℕ, IfOk};
-ghost use Rattle.iofd_words.specs.After.{changed};
-ghost use Rattle.iofd_words.specs.Checks.{dirty_enable_checks};
+ghost use Rattle.iofd_steps.specs.After.{changed};
+ghost use Rattle.iofd_refusals.specs.Checks.{dirty_enable_checks};
 ghost use Rattle.iofd_words.specs.FirstTrue.{first_true};
 ghost use Rattle.iofd_words.specs.View.{view};
 ghost use Rattle.iofd_words.specs.declared.event.Event.TheVariants as event;
@@ -13,7 +13,7 @@ use journal_audit_world::{World, objects, tracked};
 use std::alloc::Allocator;
 
 /// Why it is refused, if it is.
-#[tactic(auto, unfolding(iofd_words::specs::Checks::dirty_enable_checks))]
+#[tactic(auto, unfolding(iofd_refusals::specs::Checks::dirty_enable_checks))]
 pub fn refusal<A: Allocator>(world: &World<A>, file: FileNo, hwpt: ObjId) -> Option<Cause>
     ensures { result ≡ first_true (dirty_enable_checks (view world.now) file hwpt) }
 {
@@ -27,7 +27,7 @@ pub fn refusal<A: Allocator>(world: &World<A>, file: FileNo, hwpt: ObjId) -> Opt
 }
 
 /// What comes of it. Its only error is want of memory.
-#[tactic(auto, unfolding(iofd_words::specs::After::changed))]
+#[tactic(auto, unfolding(iofd_steps::specs::After::changed))]
 pub fn change<A: Allocator + Copy>(
     alloc: A,
     world: &mut World<A>,

@@ -1,9 +1,9 @@
 //! Each event: why it is refused, what it may answer, and what comes of it.
 
 ghost use Rattle.std.specs.Prelude.{◌≡◌, None, true, IfOk};
-ghost use Rattle.iofd_words.specs.After.{changed};
-ghost use Rattle.iofd_words.specs.Answers.{Answers};
-ghost use Rattle.iofd_words.specs.Checks as words;
+ghost use Rattle.iofd_steps.specs.After.{changed};
+ghost use Rattle.iofd_steps.specs.Answers.{Answers};
+ghost use Rattle.iofd_refusals.specs.Checks as words;
 ghost use Rattle.journal_audit_events.specs.Served.{is_served, needs_none};
 ghost use Rattle.journal_audit_world.specs.Decides.{Decides};
 ghost use Rattle.journal_audit_world.specs.Kept.{IsKept};
@@ -54,7 +54,7 @@ pub fn refusal<A: Allocator>(world: &World<A>, event: &Event<A>) -> Option<Cause
 }
 
 /// Whether the answer is a lawful one, where nothing refuses the event. Its only error is want of memory.
-#[tactic(auto, unfolding(iofd_words::specs::Answers::Answers))]
+#[tactic(auto, unfolding(iofd_steps::specs::Answers::Answers))]
 pub fn may_answer<A: Allocator + Copy>(
     alloc: A,
     world: &World<A>,

@@ -1,8 +1,8 @@
 //! IOAS_ALLOC: a file gets a new address space.
 
 ghost use Rattle.std.specs.Prelude.{◌≡◌, ℕ, IfOk};
-ghost use Rattle.iofd_words.specs.After.{changed};
-ghost use Rattle.iofd_words.specs.Checks.{ioas_alloc_checks};
+ghost use Rattle.iofd_steps.specs.After.{changed};
+ghost use Rattle.iofd_refusals.specs.Checks.{ioas_alloc_checks};
 ghost use Rattle.iofd_words.specs.FirstTrue.{first_true};
 ghost use Rattle.iofd_words.specs.View.{view};
 ghost use Rattle.iofd_words.specs.declared.event.Event.TheVariants as event;
@@ -13,7 +13,7 @@ use journal_audit_world::{World, objects};
 use std::alloc::Allocator;
 
 /// Why it is refused, if it is.
-#[tactic(auto, unfolding(iofd_words::specs::Checks::ioas_alloc_checks))]
+#[tactic(auto, unfolding(iofd_refusals::specs::Checks::ioas_alloc_checks))]
 pub fn refusal<A: Allocator>(world: &World<A>, file: FileNo) -> Option<Cause>
     ensures { result ≡ first_true (ioas_alloc_checks (view world.now) file) }
 {
@@ -27,7 +27,7 @@ pub fn refusal<A: Allocator>(world: &World<A>, file: FileNo) -> Option<Cause>
 }
 
 /// What comes of it. Its only error is want of memory.
-#[tactic(auto, unfolding(iofd_words::specs::After::changed))]
+#[tactic(auto, unfolding(iofd_steps::specs::After::changed))]
 pub fn change<A: Allocator>(
     world: &mut World<A>,
     file: FileNo,

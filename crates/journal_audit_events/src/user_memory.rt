@@ -1,8 +1,8 @@
 //! UserMap, UserUnmap and UserWrite: a user gets a page, gives one up, and writes its own memory.
 
 ghost use Rattle.std.specs.Prelude.{◌≡◌, ℕ, IfOk};
-ghost use Rattle.iofd_words.specs.After.{changed};
-ghost use Rattle.iofd_words.specs.Checks.{user_map_checks, user_unmap_checks, user_write_checks};
+ghost use Rattle.iofd_steps.specs.After.{changed};
+ghost use Rattle.iofd_refusals.specs.Checks.{user_map_checks, user_unmap_checks, user_write_checks};
 ghost use Rattle.iofd_words.specs.FirstTrue.{first_true};
 ghost use Rattle.iofd_words.specs.View.{view};
 ghost use Rattle.iofd_words.specs.declared.event.Event.TheVariants as event;
@@ -13,7 +13,7 @@ use journal_audit_world::{World, frames, pages};
 use std::alloc::Allocator;
 
 /// Why UserMap is refused, if it is.
-#[tactic(auto, unfolding(iofd_words::specs::Checks::user_map_checks))]
+#[tactic(auto, unfolding(iofd_refusals::specs::Checks::user_map_checks))]
 pub fn map_refusal<A: Allocator>(world: &World<A>, user: UserNo, va: u64) -> Option<Cause>
     ensures { result ≡ first_true (user_map_checks (view world.now) user va) }
 {
@@ -33,7 +33,7 @@ pub fn map_refusal<A: Allocator>(world: &World<A>, user: UserNo, va: u64) -> Opt
 }
 
 /// What comes of UserMap. Its only error is want of memory.
-#[tactic(auto, unfolding(iofd_words::specs::After::changed))]
+#[tactic(auto, unfolding(iofd_steps::specs::After::changed))]
 pub fn map_change<A: Allocator>(
     world: &mut World<A>,
     user: UserNo,
@@ -52,7 +52,7 @@ pub fn map_change<A: Allocator>(
 }
 
 /// Why UserUnmap is refused, if it is.
-#[tactic(auto, unfolding(iofd_words::specs::Checks::user_unmap_checks))]
+#[tactic(auto, unfolding(iofd_refusals::specs::Checks::user_unmap_checks))]
 pub fn unmap_refusal<A: Allocator>(world: &World<A>, user: UserNo, va: u64) -> Option<Cause>
     ensures { result ≡ first_true (user_unmap_checks (view world.now) user va) }
 {
@@ -69,7 +69,7 @@ pub fn unmap_refusal<A: Allocator>(world: &World<A>, user: UserNo, va: u64) -> O
 }
 
 /// What comes of UserUnmap.
-#[tactic(auto, unfolding(iofd_words::specs::After::changed))]
+#[tactic(auto, unfolding(iofd_steps::specs::After::changed))]
 pub fn unmap_change<A: Allocator>(world: &mut World<A>, user: UserNo, va: u64, reply: Reply)
     ensures { (at : ℕ) →
         unwritten world.new ≡ unwritten (changed {A = A} at world.old (event.UserUnmap user va) reply) }
@@ -80,7 +80,7 @@ pub fn unmap_change<A: Allocator>(world: &mut World<A>, user: UserNo, va: u64, r
 }
 
 /// Why UserWrite is refused, if it is.
-#[tactic(auto, unfolding(iofd_words::specs::Checks::user_write_checks))]
+#[tactic(auto, unfolding(iofd_refusals::specs::Checks::user_write_checks))]
 pub fn write_refusal<A: Allocator>(
     world: &World<A>,
     user: UserNo,

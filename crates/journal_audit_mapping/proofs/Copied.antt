@@ -17,11 +17,11 @@ use Rattle.iofd_runs.proofs.KeepsPins.{accesses_kept}
 use Rattle.iofd_runs.proofs.MappedAt.{copy_lies_at}
 use Rattle.iofd_runs.proofs.NotRefused.{copy_passed}
 use Rattle.iofd_runs.proofs.PagesToPin.{AccessedAlike}
-use Rattle.iofd_words.specs.After.{changed, copy_changes, mapped_area, settle}
-use Rattle.iofd_words.specs.Answers.{Answers}
+use Rattle.iofd_steps.specs.After.{changed, copy_changes, mapped_area, settle}
+use Rattle.iofd_steps.specs.Answers.{Answers}
 use Rattle.iofd_words.specs.Areas.{areas_of, with_area}
 use Rattle.iofd_words.specs.Bounds.{Bounds}
-use Rattle.iofd_words.specs.Checks.{copy_checks, refusal}
+use Rattle.iofd_refusals.specs.Checks.{copy_checks, refusal}
 use Rattle.iofd_words.specs.Copies.{placed_as, source_in}
 use Rattle.iofd_words.specs.FirstTrue.{first_true}
 use Rattle.iofd_words.specs.Objects.{has_hwpt}

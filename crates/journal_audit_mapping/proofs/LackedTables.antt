@@ -8,8 +8,8 @@ use Rattle.std.proofs.lemmas.List.{length-map}
 use Rattle.std.proofs.lemmas.List.Sums.{sum_by-cons}
 use Rattle.iofd_rows.proofs.Bools.{and_true, not_true}
 use Rattle.iofd_rows.proofs.ListTests.{all_pass}
-use Rattle.iofd_words.specs.Checks.{choices, lacks_mapped_frames, least, mapped_start, may_choose, tables_lacked}
-use Rattle.iofd_words.specs.Checks.{tables_to_map, taken_spans}
+use Rattle.iofd_refusals.specs.Checks.{choices, lacks_mapped_frames, least, mapped_start, may_choose, tables_lacked}
+use Rattle.iofd_refusals.specs.Checks.{tables_to_map, taken_spans}
 use Rattle.iofd_words.specs.Objects.{is_hwpt_over}
 use Rattle.iofd_words.specs.Pages.{is_above_sum}
 use Rattle.iofd_words.specs.Rights.{is_fixed}

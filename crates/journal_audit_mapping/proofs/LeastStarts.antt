@@ -7,7 +7,7 @@ use Rattle.std.proofs.lemmas.Bool.Decides.{nat_tests}
 use Rattle.std.proofs.lemmas.List.{at_drop_all, at_drop_more, take-append-drop, take_rest}
 use Rattle.std.proofs.lemmas.List.Folds.{list_any-append}
 use Rattle.iofd_words.specs.Bounds.{Bounds}
-use Rattle.iofd_words.specs.Checks.{choices, has_choice, lacks_choice, least, mapped_start, may_choose, taken_spans}
+use Rattle.iofd_refusals.specs.Checks.{choices, has_choice, lacks_choice, least, mapped_start, may_choose, taken_spans}
 use Rattle.iofd_words.specs.Fits.{whole_from}
 use Rattle.iofd_words.specs.Ranges.{meets_some}
 use Rattle.iofd_words.specs.Room.{starts_to_try}

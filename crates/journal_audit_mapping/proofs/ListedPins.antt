@@ -11,8 +11,7 @@ use Rattle.iofd_rows.proofs.Found.{find-filter, none_both}
 use Rattle.iofd_rows.proofs.ListTests.{none_stronger, or_left, or_right}
 use Rattle.iofd_rows.proofs.PageLists.{in_pages, kept_page, page_itself}
 use Rattle.iofd_rows.specs.Pinned.{has_object, have_own_numbers}
-use Rattle.iofd_words.specs.Checks.{has_pages}
-use Rattle.iofd_words.specs.Frames.{frame_at}
+use Rattle.iofd_words.specs.Frames.{frame_at, has_pages}
 use Rattle.iofd_words.specs.Pages.{page_of}
 use Rattle.iofd_words.specs.Pins.{ObjectPage, are_present, frame_now, is_page, page_of_pin, pages_of, pinned_frame}
 use Rattle.iofd_words.specs.Pins.{unpinned_pages}

@@ -14,14 +14,14 @@ use Rattle.iofd_runs.proofs.MappedAt.{lies_at}
 use Rattle.iofd_runs.proofs.MappedPages.{find_new}
 use Rattle.iofd_runs.proofs.NotRefused.{map_passed}
 use Rattle.iofd_runs.proofs.PagesToPin.{AccessedAlike, none_over}
-use Rattle.iofd_words.specs.After.{changed, map_changes, mapped_area, memory_object, settle}
-use Rattle.iofd_words.specs.Answers.{Answers}
+use Rattle.iofd_steps.specs.After.{changed, map_changes, mapped_area, memory_object, settle}
+use Rattle.iofd_steps.specs.Answers.{Answers}
 use Rattle.iofd_words.specs.Areas.{with_area}
 use Rattle.iofd_words.specs.Bounds.{Bounds}
-use Rattle.iofd_words.specs.Checks.{has_pages, map_checks, refusal}
+use Rattle.iofd_refusals.specs.Checks.{map_checks, refusal}
 use Rattle.iofd_words.specs.Files.{user_of}
 use Rattle.iofd_words.specs.FirstTrue.{first_true}
-use Rattle.iofd_words.specs.Frames.{frame_at}
+use Rattle.iofd_words.specs.Frames.{frame_at, has_pages}
 use Rattle.iofd_words.specs.Objects.{has_hwpt}
 use Rattle.iofd_words.specs.Pages.{page_of}
 use Rattle.iofd_words.specs.Pins.{ObjectPage, are_present, frame_now, is_accessed, is_page, is_pinned, is_translated}

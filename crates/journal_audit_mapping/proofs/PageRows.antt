@@ -6,12 +6,12 @@ use Rattle.std.specs.Option.{MatchOption}
 use Rattle.iofd_runs.proofs.CopiedPages.{pages_copied}
 use Rattle.iofd_runs.proofs.CopySource.{source_area}
 use Rattle.iofd_runs.proofs.Runs.{tests_false}
-use Rattle.iofd_words.specs.After.{memory_object}
-use Rattle.iofd_words.specs.Checks.{has_pages, lacks_copied_page, lacks_mapped_page, newly_copied, passes_limit}
-use Rattle.iofd_words.specs.Checks.{passes_limit_copied, passes_limit_mapped}
+use Rattle.iofd_steps.specs.After.{memory_object}
+use Rattle.iofd_refusals.specs.Checks.{lacks_copied_page, lacks_mapped_page, newly_copied, passes_limit}
+use Rattle.iofd_refusals.specs.Checks.{passes_limit_copied, passes_limit_mapped}
 use Rattle.iofd_words.specs.Files.{user_of}
 use Rattle.iofd_words.specs.FirstTrue.{first_true}
-use Rattle.iofd_words.specs.Frames.{frame_at}
+use Rattle.iofd_words.specs.Frames.{frame_at, has_pages}
 use Rattle.iofd_words.specs.Objects.{has_hwpt}
 use Rattle.iofd_words.specs.Pages.{page_of}
 use Rattle.iofd_words.specs.Pins.{ObjectPage, are_present, frame_now, pages_of, pinned_frame, unpinned_pages}

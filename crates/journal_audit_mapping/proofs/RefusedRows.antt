@@ -3,7 +3,7 @@ use Rattle.std.proofs.Common.{◌≡◌, Bool, true, false, cond, ◌&&◌, eqb,
 use Rattle.std.proofs.Common.{◌++◌, refl, sym, ap, ◌∙◌}
 use Rattle.iofd_rows.proofs.Bools.{or_false}
 use Rattle.iofd_runs.proofs.Runs.{tests_false}
-use Rattle.iofd_words.specs.Checks.{copy_checks, lacks_mapped_frames, map_checks}
+use Rattle.iofd_refusals.specs.Checks.{copy_checks, lacks_mapped_frames, map_checks}
 use Rattle.iofd_words.specs.Copies.{placed_as}
 use Rattle.iofd_words.specs.FirstTrue.{first_true}
 use Rattle.iofd_words.specs.Pages.{is_above_sum}

@@ -13,7 +13,7 @@ use Rattle.iofd_rows.proofs.ObjectPages.{has_page, in_pinned, is_listed, listed_
 use Rattle.iofd_rows.proofs.PageLists.{all_pages, in_pages, kept_page}
 use Rattle.iofd_rows.specs.Pinned.{ArePinned}
 use Rattle.iofd_runs.proofs.PagesToPin.{pages_in}
-use Rattle.iofd_words.specs.After.{settle}
+use Rattle.iofd_steps.specs.After.{settle}
 use Rattle.iofd_words.specs.Pins.{ObjectPage, is_page, is_pinned, page_of_pin, pages_of, pin_now}
 use Rattle.iofd_words.specs.World.{World}
 use Rattle.iofd_words.specs.declared.rows.MemoryObject.{MemoryObject}

@@ -2,9 +2,9 @@
 -- at last of its pages and of frames for tables.
 use Rattle.std.specs.Prelude.{Bool, ◌==◌, ◌&&◌, ◌||◌, not, is_none, List, [], ◌∷◌}
 use Rattle.iofd_words.specs.Areas.{has_no_room}
-use Rattle.iofd_words.specs.Checks.{is_outside_usable, is_source_writable, lacks_choice, lacks_copied_page}
-use Rattle.iofd_words.specs.Checks.{lacks_mapped_frames, lacks_mapped_page, overlaps, passes_limit_copied}
-use Rattle.iofd_words.specs.Checks.{passes_limit_mapped, source_of}
+use Rattle.iofd_refusals.specs.Checks.{is_outside_usable, is_source_writable, lacks_choice, lacks_copied_page}
+use Rattle.iofd_refusals.specs.Checks.{lacks_mapped_frames, lacks_mapped_page, overlaps, passes_limit_copied}
+use Rattle.iofd_refusals.specs.Checks.{passes_limit_mapped, source_of}
 use Rattle.iofd_words.specs.Objects.{has_ioas}
 use Rattle.iofd_words.specs.Pages.{is_above_sum, is_above_user, is_whole}
 use Rattle.iofd_words.specs.Rights.{is_fixed, is_readable, is_writeable}

@@ -1,9 +1,9 @@
 //! COPY: the memory of an area is mapped once more.
 
 ghost use Rattle.std.specs.Prelude.{◌≡◌, None, Some, IfOk};
-ghost use Rattle.iofd_words.specs.After.{changed};
-ghost use Rattle.iofd_words.specs.Answers.{Answers};
-ghost use Rattle.iofd_words.specs.Checks.{copy_checks, refusal};
+ghost use Rattle.iofd_steps.specs.After.{changed};
+ghost use Rattle.iofd_steps.specs.Answers.{Answers};
+ghost use Rattle.iofd_refusals.specs.Checks.{copy_checks, refusal};
 ghost use Rattle.iofd_words.specs.FirstTrue.{first_true};
 ghost use Rattle.iofd_words.specs.View.{view};
 ghost use Rattle.iofd_words.specs.declared.event.Event.TheVariants as event;
@@ -142,7 +142,7 @@ pub fn refusal<A: Allocator + Copy>(
 // ---- answers
 
 /// Whether the answer is a lawful one: the fixed address, or one that may be chosen.
-#[tactic(auto, unfolding(iofd_words::specs::Answers::Answers))]
+#[tactic(auto, unfolding(iofd_steps::specs::Answers::Answers))]
 pub fn may_answer<A: Allocator + Copy>(
     alloc: A,
     world: &World<A>,
@@ -163,7 +163,7 @@ pub fn may_answer<A: Allocator + Copy>(
 /// What comes of it, where nothing refuses it and the answer is lawful, at this position: an area over the memory
 /// object of its source, and pins of the pages that weren't pinned where a page table is over the address space. Its
 /// only error is want of memory.
-#[tactic(auto, unfolding(iofd_words::specs::After::changed))]
+#[tactic(auto, unfolding(iofd_steps::specs::After::changed))]
 pub fn change<A: Allocator + Copy>(
     alloc: A,
     at: u64,

@@ -1,9 +1,9 @@
 //! MAP: pages of a user's memory are mapped in an address space.
 
 ghost use Rattle.std.specs.Prelude.{◌≡◌, None, Some, IfOk};
-ghost use Rattle.iofd_words.specs.After.{changed, memory_object};
-ghost use Rattle.iofd_words.specs.Answers.{Answers};
-ghost use Rattle.iofd_words.specs.Checks.{map_checks, refusal};
+ghost use Rattle.iofd_steps.specs.After.{changed, memory_object};
+ghost use Rattle.iofd_steps.specs.Answers.{Answers};
+ghost use Rattle.iofd_refusals.specs.Checks.{map_checks, refusal};
 ghost use Rattle.iofd_words.specs.Files.{user_of};
 ghost use Rattle.iofd_words.specs.FirstTrue.{first_true};
 ghost use Rattle.iofd_words.specs.View.{view};
@@ -117,7 +117,7 @@ pub fn refusal<A: Allocator + Copy>(
 // ---- answers
 
 /// Whether the answer is a lawful one: the fixed address, or one that may be chosen.
-#[tactic(auto, unfolding(iofd_words::specs::Answers::Answers))]
+#[tactic(auto, unfolding(iofd_steps::specs::Answers::Answers))]
 pub fn may_answer<A: Allocator + Copy>(
     alloc: A,
     world: &World<A>,
@@ -150,7 +150,7 @@ fn object_of(at: u64, user: UserNo, request: MapRequest) -> MemoryObject
 
 /// What comes of it, where nothing refuses it and the answer is lawful, at this position: a memory object, an area over
 /// it, and pins of its pages where a page table is over the address space. Its only error is want of memory.
-#[tactic(auto, unfolding(iofd_words::specs::After::changed))]
+#[tactic(auto, unfolding(iofd_steps::specs::After::changed))]
 pub fn change<A: Allocator + Copy>(
     alloc: A,
     at: u64,

@@ -1,9 +1,10 @@
 //! Where the area of a MAP or a COPY comes to lie: what refuses that, which answers are lawful, and the areas with it.
 
 ghost use Rattle.std.specs.Prelude.{◌≡◌, ◌==◌, ◌&&◌, ◌≤◌, ◌∷◌, ◌++◌, false, length, take, drop, IfOk};
-ghost use Rattle.iofd_words.specs.Answers.{IsMappedAt};
+ghost use Rattle.iofd_steps.specs.Answers.{IsMappedAt};
 ghost use Rattle.iofd_words.specs.Areas.{areas_of, has_no_room, with_area};
-ghost use Rattle.iofd_words.specs.Checks.{is_outside_usable, lacks_choice, lacks_mapped_frames, mapped_span, overlaps};
+ghost use Rattle.iofd_refusals.specs.Checks.{is_outside_usable, lacks_choice, lacks_mapped_frames, mapped_span};
+ghost use Rattle.iofd_refusals.specs.Checks.{overlaps};
 ghost use Rattle.iofd_words.specs.FirstTrue.{first_true};
 ghost use Rattle.iofd_words.specs.Pages.{is_above_sum};
 ghost use Rattle.iofd_words.specs.Rights.{is_fixed};

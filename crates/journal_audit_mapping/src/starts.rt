@@ -4,7 +4,7 @@ ghost use Rattle.std.specs.Prelude.{◌≡◌, ◌≤◌, ◌+◌, ◌^◌, ◌|
 ghost use Rattle.std.specs.List.{list_all};
 ghost use Rattle.std.specs.Option.{option_copied};
 ghost use Rattle.iofd_words.specs.Allowed.{allowed_of, is_allowed_in};
-ghost use Rattle.iofd_words.specs.Checks.{least, mapped_start, may_choose};
+ghost use Rattle.iofd_refusals.specs.Checks.{least, mapped_start, may_choose};
 ghost use Rattle.iofd_words.specs.Fits.{whole_from};
 ghost use Rattle.iofd_words.specs.Ranges.{in_spans, meets_some};
 ghost use Rattle.iofd_words.specs.Room.{is_covered_by, starts_to_try};
@@ -72,7 +72,7 @@ fn goes_on(ranges: &[IovaRange], span: Span, range: IovaRange) -> bool
     match range.last.checked_add(1) {
         Some(next) => !span.holds(next) || in_ranges(ranges, next),
         None => {
-            let _ = span.last();
+            span.facts();
             true
         }
     }

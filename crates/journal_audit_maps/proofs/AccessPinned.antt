@@ -10,10 +10,10 @@ use Rattle.iofd_runs.proofs.AccessPins.{accessed_pins_more, spanned}
 use Rattle.iofd_runs.proofs.AccessesPassed.{access_pin_passed}
 use Rattle.iofd_runs.proofs.Runs.{tests_false}
 use Rattle.iofd_words.specs.Accesses.{is_spanned, pin_of, pinned_span}
-use Rattle.iofd_words.specs.After.{changed, settle}
+use Rattle.iofd_steps.specs.After.{changed, settle}
 use Rattle.iofd_words.specs.Areas.{areas_of}
 use Rattle.iofd_words.specs.Bounds.{Bounds}
-use Rattle.iofd_words.specs.Checks.{access_pin_checks, pin_checks_in}
+use Rattle.iofd_refusals.specs.Checks.{access_pin_checks, pin_checks_in}
 use Rattle.iofd_words.specs.FirstTrue.{first_true}
 use Rattle.iofd_words.specs.Objects.{access_ioas_of, has_access}
 use Rattle.iofd_words.specs.Pins.{is_accessed, is_translated, pages_of}

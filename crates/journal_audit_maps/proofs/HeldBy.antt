@@ -14,7 +14,7 @@ use Rattle.iofd_rows.proofs.PageCounts.{count-cons, count_none}
 use Rattle.iofd_rows.proofs.PageLists.{in_pages, page_itself, same_page}
 use Rattle.iofd_rows.proofs.PinsFollow.{pin_is_of}
 use Rattle.iofd_rows.specs.Pinned.{ArePinned, differ, have_own_numbers}
-use Rattle.iofd_words.specs.Checks.{passes_limit}
+use Rattle.iofd_refusals.specs.Checks.{passes_limit}
 use Rattle.iofd_words.specs.Files.{limit_of, user_of}
 use Rattle.iofd_words.specs.Pins.{ObjectPage, held_by, is_page, page_of_pin, pages_of, pinned_frame}
 use Rattle.iofd_words.specs.View.{view}

@@ -5,7 +5,7 @@ use Rattle.std.specs.List.{filter_map, flat_map, list_any}
 use Rattle.iofd_rows.proofs.Bools.{or_false}
 use Rattle.iofd_words.specs.Accesses.{lacks_accessed_page}
 use Rattle.iofd_words.specs.Bounds.{Bounds}
-use Rattle.iofd_words.specs.Checks.{passes_limit, passes_limit_accessed}
+use Rattle.iofd_refusals.specs.Checks.{passes_limit, passes_limit_accessed}
 use Rattle.iofd_words.specs.Files.{user_of}
 use Rattle.iofd_words.specs.FirstTrue.{first_true}
 use Rattle.iofd_words.specs.Pins.{ObjectPage, frame_now, pages_of, pin_now}

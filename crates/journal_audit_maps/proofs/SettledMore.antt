@@ -12,7 +12,7 @@ use Rattle.iofd_rows.proofs.PageLists.{at_page, page_itself}
 use Rattle.iofd_rows.specs.Pinned.{ArePinned}
 use Rattle.iofd_runs.proofs.AttachedPages.{never_pinned}
 use Rattle.iofd_runs.proofs.PagesToPin.{pages_in}
-use Rattle.iofd_words.specs.After.{settle}
+use Rattle.iofd_steps.specs.After.{settle}
 use Rattle.iofd_words.specs.Pins.{ObjectPage, is_page, is_pinned, page_of_pin, pages_of, pin_now, pinned_frame}
 use Rattle.iofd_words.specs.Pins.{unpinned_pages}
 use Rattle.iofd_words.specs.World.{World}

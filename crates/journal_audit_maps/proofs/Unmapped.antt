@@ -3,11 +3,11 @@ use Rattle.std.proofs.Common.{◌≡◌, ◌&&◌, ◌||◌, ℕ, true, not, eqb
 use Rattle.std.specs.List.{filter, list_all, list_any}
 use Rattle.iofd_runs.proofs.KeepsPins.{accesses_kept}
 use Rattle.iofd_runs.proofs.PagesToPin.{gone_within}
-use Rattle.iofd_words.specs.After.{changed, settle, without_areas}
-use Rattle.iofd_words.specs.Answers.{Answers}
+use Rattle.iofd_steps.specs.After.{changed, settle, without_areas}
+use Rattle.iofd_steps.specs.Answers.{Answers}
 use Rattle.iofd_words.specs.Areas.{is_of, is_touched, unmapped_span}
 use Rattle.iofd_words.specs.Bounds.{Bounds}
-use Rattle.iofd_words.specs.Checks.{refusal}
+use Rattle.iofd_refusals.specs.Checks.{refusal}
 use Rattle.iofd_words.specs.Pins.{is_pinned, page_of_pin}
 use Rattle.iofd_words.specs.Span.{meets}
 use Rattle.iofd_words.specs.World.{World}

@@ -10,12 +10,12 @@ use Rattle.iofd_rows.proofs.ListTests.{alike, any-filter, any_apart, any_weaker}
 use Rattle.iofd_rows.specs.AccessPins.{AreHeld, IsHeld}
 use Rattle.iofd_runs.proofs.NotRefused.{unmap_passed}
 use Rattle.iofd_runs.specs.PinsFit.{is_fitting_pin}
-use Rattle.iofd_words.specs.Answers.{waits}
+use Rattle.iofd_steps.specs.Answers.{waits}
 use Rattle.iofd_words.specs.Areas.{areas_of, is_cut, is_everything, is_held_back, is_of, is_touched, owed_by}
 use Rattle.iofd_words.specs.Areas.{unmapped_span}
 use Rattle.iofd_words.specs.Attachments.{devices_of, is_attached_to}
 use Rattle.iofd_words.specs.Bounds.{Bounds}
-use Rattle.iofd_words.specs.Checks.{unmap_checks}
+use Rattle.iofd_refusals.specs.Checks.{unmap_checks}
 use Rattle.iofd_words.specs.FirstTrue.{first_true}
 use Rattle.iofd_words.specs.Objects.{access_ioas, is_access_to, kind_of}
 use Rattle.iofd_words.specs.Pins.{has_pin_in, is_pin_in}

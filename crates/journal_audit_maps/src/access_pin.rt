@@ -1,10 +1,10 @@
 //! AccessPin: an access object pins pages of the address space to which it is attached.
 
 ghost use Rattle.std.specs.Prelude.{◌≡◌, ◌∷◌, ◌/◌, ◌==◌, ◌&&◌, ◌||◌, [], None, Some, IfOk, not};
-ghost use Rattle.iofd_words.specs.After.{changed};
+ghost use Rattle.iofd_steps.specs.After.{changed};
 ghost use Rattle.iofd_words.specs.Accesses.{has_gap, lacks_accessed_page, meets_leaving, meets_without_right};
 ghost use Rattle.iofd_words.specs.Areas.{areas_of};
-ghost use Rattle.iofd_words.specs.Checks.{access_pin_checks, passes_limit_accessed, pin_checks_in, refusal};
+ghost use Rattle.iofd_refusals.specs.Checks.{access_pin_checks, passes_limit_accessed, pin_checks_in, refusal};
 ghost use Rattle.iofd_words.specs.FirstTrue.{first_true};
 ghost use Rattle.iofd_words.specs.View.{view};
 ghost use Rattle.iofd_words.specs.Objects.{access_ioas_of};
@@ -26,7 +26,7 @@ use journal_audit_world::{World, access_pins, objects, pages};
 use std::alloc::Allocator;
 
 /// Why it is refused, if it is. Its only error is want of memory.
-#[tactic(auto, unfolding(iofd_words::specs::Checks::access_pin_checks))]
+#[tactic(auto, unfolding(iofd_refusals::specs::Checks::access_pin_checks))]
 pub fn refusal<A: Allocator + Copy>(
     alloc: A,
     at: u64,
@@ -154,7 +154,7 @@ fn refusal_by_pages<A: Allocator + Copy>(
 
 /// What comes of it, where nothing refuses it, at this position: a pin more, and pins of the pages that weren't pinned.
 /// Its only error is want of memory.
-#[tactic(auto, unfolding(iofd_words::specs::After::changed))]
+#[tactic(auto, unfolding(iofd_steps::specs::After::changed))]
 pub fn change<A: Allocator + Copy>(
     alloc: A,
     at: u64,
@@ -180,7 +180,7 @@ pub fn change<A: Allocator + Copy>(
 }
 
 // The same of one that is attached to this address space.
-#[tactic(auto, unfolding(iofd_words::specs::After::changed))]
+#[tactic(auto, unfolding(iofd_steps::specs::After::changed))]
 fn pin<A: Allocator + Copy>(
     alloc: A,
     at: u64,

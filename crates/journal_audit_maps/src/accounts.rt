@@ -2,7 +2,7 @@
 
 ghost use Rattle.std.specs.Prelude.{◌≡◌, ◌&&◌, ◌==◌, true, nat_lt};
 ghost use Rattle.std.specs.List.{count_by};
-ghost use Rattle.iofd_words.specs.Checks.{passes_limit};
+ghost use Rattle.iofd_refusals.specs.Checks.{passes_limit};
 ghost use Rattle.iofd_words.specs.Files.{limit_of, user_of};
 ghost use Rattle.iofd_words.specs.View.{view};
 ghost use Rattle.journal_audit_maps.specs.Held.{is_of_user};

@@ -1,9 +1,9 @@
 //! UNMAP: areas go, or are leaving until devices have flushed and access pins are let go.
 
 ghost use Rattle.std.specs.Prelude.{◌≡◌, None, IfOk};
-ghost use Rattle.iofd_words.specs.After.{changed};
-ghost use Rattle.iofd_words.specs.Answers.{Answers};
-ghost use Rattle.iofd_words.specs.Checks.{refusal, unmap_checks};
+ghost use Rattle.iofd_steps.specs.After.{changed};
+ghost use Rattle.iofd_steps.specs.Answers.{Answers};
+ghost use Rattle.iofd_refusals.specs.Checks.{refusal, unmap_checks};
 ghost use Rattle.iofd_words.specs.FirstTrue.{first_true};
 ghost use Rattle.iofd_words.specs.View.{view};
 ghost use Rattle.iofd_words.specs.declared.event.Event.TheVariants as event;
@@ -24,7 +24,7 @@ use journal_audit_world::{World, keeping, objects, over, pages};
 use std::alloc::Allocator;
 
 /// Why it is refused, if it is.
-#[tactic(auto, unfolding(iofd_words::specs::Checks::unmap_checks))]
+#[tactic(auto, unfolding(iofd_refusals::specs::Checks::unmap_checks))]
 pub fn refusal<A: Allocator>(world: &World<A>, file: FileNo, request: UnmapRequest) -> Option<Cause>
     ensures { result ≡ first_true (unmap_checks (view world.now) file request) }
 {
@@ -51,7 +51,7 @@ pub fn refusal<A: Allocator>(world: &World<A>, file: FileNo, request: UnmapReque
 }
 
 // Whether so many bytes are a lawful answer.
-#[tactic(auto, unfolding(iofd_words::specs::Answers::Answers))]
+#[tactic(auto, unfolding(iofd_steps::specs::Answers::Answers))]
 fn may_tell_bytes<A: Allocator>(
     at: u64,
     world: &World<A>,
@@ -67,7 +67,7 @@ fn may_tell_bytes<A: Allocator>(
 }
 
 // Whether it is one that this is to be called again.
-#[tactic(auto, unfolding(iofd_words::specs::Answers::Answers))]
+#[tactic(auto, unfolding(iofd_steps::specs::Answers::Answers))]
 fn may_tell_pending<A: Allocator>(
     at: u64,
     world: &World<A>,
@@ -84,7 +84,7 @@ fn may_tell_pending<A: Allocator>(
 }
 
 /// Whether the answer is a lawful one, where nothing refuses it.
-#[tactic(auto, unfolding(iofd_words::specs::Answers::Answers))]
+#[tactic(auto, unfolding(iofd_steps::specs::Answers::Answers))]
 pub fn may_answer<A: Allocator>(
     at: u64,
     world: &World<A>,
@@ -105,7 +105,7 @@ pub fn may_answer<A: Allocator>(
 
 /// What comes of it, where nothing refuses it and the answer is lawful, at this position. Its only error is want of
 /// memory.
-#[tactic(auto, unfolding(iofd_words::specs::After::changed))]
+#[tactic(auto, unfolding(iofd_steps::specs::After::changed))]
 pub fn change<A: Allocator + Copy>(
     alloc: A,
     at: u64,
@@ -131,7 +131,7 @@ pub fn change<A: Allocator + Copy>(
 }
 
 // Its areas go, with their memory objects and pins.
-#[tactic(auto, unfolding(iofd_words::specs::After::changed))]
+#[tactic(auto, unfolding(iofd_steps::specs::After::changed))]
 fn remove<A: Allocator + Copy>(
     alloc: A,
     at: u64,
@@ -169,7 +169,7 @@ fn remove<A: Allocator + Copy>(
 }
 
 // They are leaving, with a try more.
-#[tactic(auto, unfolding(iofd_words::specs::After::changed))]
+#[tactic(auto, unfolding(iofd_steps::specs::After::changed))]
 fn wait<A: Allocator>(
     at: u64,
     world: &mut World<A>,

@@ -2,10 +2,10 @@
 
 ghost use Rattle.std.specs.Prelude.{◌≡◌, ◌&&◌, ◌||◌, None};
 ghost use Rattle.std.specs.List.{list_any};
-ghost use Rattle.iofd_words.specs.Answers.{waits};
+ghost use Rattle.iofd_steps.specs.Answers.{waits};
 ghost use Rattle.iofd_words.specs.Areas.{is_touched, unmapped_span};
 ghost use Rattle.iofd_words.specs.Attachments.{is_attached_to};
-ghost use Rattle.iofd_words.specs.Checks.{refusal};
+ghost use Rattle.iofd_refusals.specs.Checks.{refusal};
 ghost use Rattle.iofd_words.specs.declared.event.Event.TheVariants as event;
 ghost use Rattle.journal_audit_maps.specs.Waiting.{are_owed, is_pin_at};
 ghost use Rattle.journal_audit_world.specs.Kept.{IsKept};

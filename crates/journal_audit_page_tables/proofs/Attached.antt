@@ -1,9 +1,9 @@
 -- A device that is attached, by what it is attached to.
 use Rattle.std.proofs.Common.{◌≡◌, ℕ, Bool, true, false, Option, Some, None, sym, ap, subst, ◌∙◌}
 use Rattle.iofd_runs.proofs.NotRefused.{attach_passed, hwpt_passed}
-use Rattle.iofd_words.specs.After.{attach_changes, attached, changed, joined, settle, target_changes, with_hwpt}
-use Rattle.iofd_words.specs.Answers.{Answers, IsHwptFor, IsHwptOf, IsTarget}
-use Rattle.iofd_words.specs.Checks.{attach_checks, hwpt_alloc_checks, lacks_attached_page}
+use Rattle.iofd_steps.specs.After.{attach_changes, attached, changed, joined, settle, target_changes, with_hwpt}
+use Rattle.iofd_steps.specs.Answers.{Answers, IsHwptFor, IsHwptOf, IsTarget}
+use Rattle.iofd_refusals.specs.Checks.{attach_checks, hwpt_alloc_checks, lacks_attached_page}
 use Rattle.iofd_words.specs.Files.{device_of}
 use Rattle.iofd_words.specs.FirstTrue.{first_true}
 use Rattle.iofd_words.specs.Objects.{automatic_hwpt, binding_of, is_fresh, kind_of}

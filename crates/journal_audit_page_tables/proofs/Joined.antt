@@ -3,7 +3,7 @@ use Rattle.std.proofs.Common.{◌≡◌, ℕ, Bool, true, false, ◌||◌, Optio
 use Rattle.std.specs.List.{filter, filter_map, flat_map}
 use Rattle.iofd_rows.proofs.ObjectPages.{translated-map}
 use Rattle.iofd_runs.proofs.Accessed.{accessed_phases}
-use Rattle.iofd_words.specs.After.{settle, with_hwpt}
+use Rattle.iofd_steps.specs.After.{settle, with_hwpt}
 use Rattle.iofd_words.specs.Areas.{all_paid, paid}
 use Rattle.iofd_words.specs.Objects.{automatic_hwpt}
 use Rattle.iofd_words.specs.Pins.{ObjectPage, is_accessed, is_pinned, is_translated, pages_of, pin_now, pinned_frame}

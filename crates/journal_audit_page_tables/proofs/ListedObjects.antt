@@ -15,7 +15,7 @@ use Rattle.iofd_rows.specs.Pinned.{has_object, have_own_numbers}
 use Rattle.iofd_runs.proofs.Accessed.{some_in}
 use Rattle.iofd_runs.specs.Fits.{is_of_pages}
 use Rattle.iofd_words.specs.Areas.{areas_of}
-use Rattle.iofd_words.specs.Checks.{newly_pinned}
+use Rattle.iofd_refusals.specs.Checks.{newly_pinned}
 use Rattle.iofd_words.specs.Frames.{frame_at}
 use Rattle.iofd_words.specs.Pins.{ObjectPage, are_present, frame_now, pages_of, pinned_frame, unpinned_pages}
 use Rattle.iofd_words.specs.Span.{size_of}

@@ -11,7 +11,7 @@ use Rattle.iofd_words.specs.Allowed.{allowed_of}
 use Rattle.iofd_words.specs.Areas.{areas_of}
 use Rattle.iofd_words.specs.Attachments.{is_attached_to}
 use Rattle.iofd_words.specs.Bounds.{Bounds}
-use Rattle.iofd_words.specs.Checks.{narrows, narrows_by_width}
+use Rattle.iofd_refusals.specs.Checks.{narrows, narrows_by_width}
 use Rattle.iofd_words.specs.Files.{device_of}
 use Rattle.iofd_words.specs.Objects.{is_hwpt_over, settings_under}
 use Rattle.iofd_words.specs.Ranges.{meets_some}

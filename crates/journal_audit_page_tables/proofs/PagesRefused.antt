@@ -2,7 +2,7 @@
 use Rattle.std.proofs.Common.{◌≡◌, ℕ, Bool, true, false, cond, ◌&&◌, not, is_none, Some, None, List, [], ◌∷◌, length}
 use Rattle.std.proofs.Common.{sym, ap, ◌∙◌}
 use Rattle.std.specs.List.{list_any}
-use Rattle.iofd_words.specs.Checks.{lacks_attached_page, newly_pinned, passes_limit, passes_limit_attached}
+use Rattle.iofd_refusals.specs.Checks.{lacks_attached_page, newly_pinned, passes_limit, passes_limit_attached}
 use Rattle.iofd_words.specs.Files.{user_of}
 use Rattle.iofd_words.specs.FirstTrue.{first_true}
 use Rattle.iofd_words.specs.Objects.{has_hwpt}

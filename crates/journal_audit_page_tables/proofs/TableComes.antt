@@ -9,9 +9,9 @@ use Rattle.iofd_rows.proofs.PageTables.{hwpt-with_object}
 use Rattle.iofd_runs.proofs.Accessed.{accessed_objects, each_held}
 use Rattle.iofd_runs.proofs.AttachedPages.{had_before}
 use Rattle.iofd_runs.proofs.HoldersStay.{more_accesses}
-use Rattle.iofd_words.specs.After.{settle}
+use Rattle.iofd_steps.specs.After.{settle}
 use Rattle.iofd_words.specs.Areas.{areas_of, is_of}
-use Rattle.iofd_words.specs.Checks.{newly_pinned}
+use Rattle.iofd_refusals.specs.Checks.{newly_pinned}
 use Rattle.iofd_words.specs.Objects.{has_hwpt, is_fresh, with_object}
 use Rattle.iofd_words.specs.Pins.{ObjectPage, is_accessed, is_pinned, is_translated, pages_of, pin_now, pinned_frame}
 use Rattle.iofd_words.specs.Pins.{unpinned_pages}

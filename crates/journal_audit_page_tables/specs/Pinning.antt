@@ -3,7 +3,7 @@ use Rattle.std.specs.Prelude.{Bool, List, [], if◌then◌else◌}
 use Rattle.std.specs.List.{filter_map}
 use Rattle.iofd_words.specs.Areas.{all_paid}
 use Rattle.iofd_words.specs.Attachments.{with_attachment}
-use Rattle.iofd_words.specs.Checks.{newly_pinned}
+use Rattle.iofd_refusals.specs.Checks.{newly_pinned}
 use Rattle.iofd_words.specs.Objects.{has_hwpt, with_object}
 use Rattle.iofd_words.specs.Pins.{pin_now}
 use Rattle.iofd_words.specs.View.{view}

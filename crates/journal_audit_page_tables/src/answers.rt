@@ -1,6 +1,6 @@
 //! The page table of an attachment.
 
-ghost use Rattle.iofd_words.specs.Answers.{AnswersId, IsHwptFor, IsHwptOf, IsTarget};
+ghost use Rattle.iofd_steps.specs.Answers.{AnswersId, IsHwptFor, IsHwptOf, IsTarget};
 ghost use Rattle.iofd_words.specs.Files.{device_of};
 ghost use Rattle.iofd_words.specs.Objects.{binding_of, kind_of};
 ghost use Rattle.journal_audit_world.specs.Decides.{Decides};

@@ -1,12 +1,12 @@
 //! Attach: a device is attached to an address space, or to a page table.
 
 ghost use Rattle.std.specs.Prelude.{◌≡◌, ◌∷◌, ◌++◌, [], ◌≤◌, None, Some, IfOk, false, true, length, take, drop};
-ghost use Rattle.iofd_words.specs.After.{changed, settle, with_hwpt};
-ghost use Rattle.iofd_words.specs.Answers.{Answers, IsHwptFor};
+ghost use Rattle.iofd_steps.specs.After.{changed, settle, with_hwpt};
+ghost use Rattle.iofd_steps.specs.Answers.{Answers, IsHwptFor};
 ghost use Rattle.iofd_words.specs.Attachments.{with_attachment};
-ghost use Rattle.iofd_words.specs.Checks as words;
-ghost use Rattle.iofd_words.specs.Checks.{attach_checks, bound_attach_checks, lacks_attached_page};
-ghost use Rattle.iofd_words.specs.Checks.{passes_limit_attached, target_checks};
+ghost use Rattle.iofd_refusals.specs.Checks as words;
+ghost use Rattle.iofd_refusals.specs.Checks.{attach_checks, bound_attach_checks, lacks_attached_page};
+ghost use Rattle.iofd_refusals.specs.Checks.{passes_limit_attached, target_checks};
 ghost use Rattle.iofd_words.specs.Files.{device_of};
 ghost use Rattle.iofd_words.specs.FirstTrue.{first_true};
 ghost use Rattle.iofd_words.specs.Objects.{automatic_hwpt, kind_of};
@@ -29,7 +29,7 @@ use std::alloc::Allocator;
 // ---- why it is refused
 
 /// Why it is refused, if it is. Its only error is want of memory.
-#[tactic(auto, unfolding(iofd_words::specs::Checks::attach_checks))]
+#[tactic(auto, unfolding(iofd_refusals::specs::Checks::attach_checks))]
 pub fn refusal<A: Allocator + Copy>(
     alloc: A,
     at: u64,
@@ -245,7 +245,7 @@ fn attach_to_space<A: Allocator + Copy>(
 
 /// What comes of it, where nothing refuses it, at this position, with a lawful answer. Its only error is want of
 /// memory.
-#[tactic(auto, unfolding(iofd_words::specs::After::changed))]
+#[tactic(auto, unfolding(iofd_steps::specs::After::changed))]
 pub fn change<A: Allocator + Copy>(
     alloc: A,
     at: u64,

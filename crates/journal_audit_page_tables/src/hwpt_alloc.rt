@@ -1,10 +1,10 @@
 //! HWPT_ALLOC: a hardware page table of a device's width over an address space.
 
 ghost use Rattle.std.specs.Prelude.{◌≡◌, ◌∷◌, [], None, IfOk, is_none, not};
-ghost use Rattle.iofd_words.specs.After.{changed};
-ghost use Rattle.iofd_words.specs.Answers.{Answers};
-ghost use Rattle.iofd_words.specs.Checks as words;
-ghost use Rattle.iofd_words.specs.Checks.{hwpt_alloc_checks, lacks_attached_page, passes_limit_attached};
+ghost use Rattle.iofd_steps.specs.After.{changed};
+ghost use Rattle.iofd_steps.specs.Answers.{Answers};
+ghost use Rattle.iofd_refusals.specs.Checks as words;
+ghost use Rattle.iofd_refusals.specs.Checks.{hwpt_alloc_checks, lacks_attached_page, passes_limit_attached};
 ghost use Rattle.iofd_words.specs.FirstTrue.{first_true};
 ghost use Rattle.iofd_words.specs.Objects.{device_under, has_ioas, is_full, settings_under};
 ghost use Rattle.iofd_words.specs.View.{view};
@@ -22,7 +22,7 @@ use journal_audit_world::{World, objects};
 use std::alloc::Allocator;
 
 /// Why it is refused, if it is. Its only error is want of memory.
-#[tactic(auto, unfolding(iofd_words::specs::Checks::hwpt_alloc_checks))]
+#[tactic(auto, unfolding(iofd_refusals::specs::Checks::hwpt_alloc_checks))]
 pub fn refusal<A: Allocator + Copy>(
     alloc: A,
     at: u64,
@@ -110,7 +110,7 @@ fn refusal_by_frames<A: Allocator + Copy>(
 
 /// What comes of it, where nothing refuses it, at this position, with a lawful answer. Its only error is want of
 /// memory.
-#[tactic(auto, unfolding(iofd_words::specs::After::changed))]
+#[tactic(auto, unfolding(iofd_steps::specs::After::changed))]
 pub fn change<A: Allocator + Copy>(
     alloc: A,
     at: u64,

@@ -5,7 +5,7 @@ ghost use Rattle.std.specs.List.{list_any};
 ghost use Rattle.std.specs.Option.{option_copied};
 ghost use Rattle.iofd_words.specs.Allowed.{allowed_of, is_allowed_in};
 ghost use Rattle.iofd_words.specs.Areas.{areas_of};
-ghost use Rattle.iofd_words.specs.Checks as words;
+ghost use Rattle.iofd_refusals.specs.Checks as words;
 ghost use Rattle.iofd_words.specs.Files.{device_of};
 ghost use Rattle.iofd_words.specs.Objects.{settings_under};
 ghost use Rattle.iofd_words.specs.View.{view};

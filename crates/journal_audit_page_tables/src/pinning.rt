@@ -4,8 +4,8 @@ ghost use Rattle.std.specs.Prelude.{◌≡◌, ◌≤◌, ◌++◌, ◌^◌, ◌
 ghost use Rattle.std.specs.Prelude.{if◌then◌else◌};
 ghost use Rattle.std.specs.List.{list_all};
 ghost use Rattle.iofd_rows.specs.Pinned.{have_own_numbers};
-ghost use Rattle.iofd_words.specs.After.{settle};
-ghost use Rattle.iofd_words.specs.Checks.{lacks_attached_page, newly_pinned, passes_limit_attached};
+ghost use Rattle.iofd_steps.specs.After.{settle};
+ghost use Rattle.iofd_refusals.specs.Checks.{lacks_attached_page, newly_pinned, passes_limit_attached};
 ghost use Rattle.iofd_words.specs.FirstTrue.{first_true};
 ghost use Rattle.iofd_words.specs.Objects.{is_fresh};
 ghost use Rattle.iofd_words.specs.Pins.{are_present, pages_of};

@@ -3,8 +3,8 @@
 ghost use Rattle.std.specs.Prelude.{◌≡◌, IfOk, false, length, nat_lt, not};
 ghost use Rattle.std.specs.List.{list_any};
 ghost use Rattle.iofd_words.specs.Areas.{areas_of};
-ghost use Rattle.iofd_words.specs.Checks.{lacks_attached_frames, lacks_new_tables, lacks_room_for_hwpt};
-ghost use Rattle.iofd_words.specs.Checks.{waits_for_leaving};
+ghost use Rattle.iofd_refusals.specs.Checks.{lacks_attached_frames, lacks_new_tables, lacks_room_for_hwpt};
+ghost use Rattle.iofd_refusals.specs.Checks.{waits_for_leaving};
 ghost use Rattle.iofd_words.specs.Files.{device_of};
 ghost use Rattle.iofd_words.specs.Frames.{free_count};
 ghost use Rattle.iofd_words.specs.Objects.{settings_under};

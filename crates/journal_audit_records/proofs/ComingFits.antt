@@ -3,8 +3,8 @@ use Rattle.std.proofs.Common.{◌≡◌, ◌≤◌, ◌+◌, ◌^◌, ℕ, Bool,
 use Rattle.std.proofs.lemmas.Bool.Decides.{nat_tests}
 use Rattle.iofd_rows.proofs.Bools.{and_true, not_true}
 use Rattle.iofd_runs.proofs.NotRefused.{copy_passed, map_passed}
-use Rattle.iofd_words.specs.Answers.{Answers, IsMappedAt}
-use Rattle.iofd_words.specs.Checks.{refusal}
+use Rattle.iofd_steps.specs.Answers.{Answers, IsMappedAt}
+use Rattle.iofd_refusals.specs.Checks.{refusal}
 use Rattle.iofd_words.specs.Copies.{placed_as}
 use Rattle.iofd_words.specs.Files.{device_of}
 use Rattle.iofd_words.specs.Objects.{automatic_hwpt, binding_of, has_ioas, settings_under}

@@ -1,8 +1,8 @@
 //! What events may answer.
 
 ghost use Rattle.std.specs.Prelude.{◌≡◌, None, IfOk};
-ghost use Rattle.iofd_words.specs.Answers.{Answers};
-ghost use Rattle.iofd_words.specs.Checks as words;
+ghost use Rattle.iofd_steps.specs.Answers.{Answers};
+ghost use Rattle.iofd_refusals.specs.Checks as words;
 ghost use Rattle.journal_audit_world.specs.Decides.{Decides};
 ghost use Rattle.journal_audit_world.specs.Kept.{IsKept};
 
@@ -16,7 +16,7 @@ use journal_audit_world::World;
 use std::alloc::Allocator;
 
 /// Whether the answer is a lawful one at this position, where nothing refuses the event.
-#[tactic(auto, unfolding(iofd_words::specs::Answers::Answers))]
+#[tactic(auto, unfolding(iofd_steps::specs::Answers::Answers))]
 pub fn may_answer<A: Allocator + Copy>(
     alloc: A,
     at: u64,

@@ -1,9 +1,9 @@
 //! What comes of events.
 
 ghost use Rattle.std.specs.Prelude.{◌≡◌, None, IfOk};
-ghost use Rattle.iofd_words.specs.After.{changed};
-ghost use Rattle.iofd_words.specs.Answers.{Answers};
-ghost use Rattle.iofd_words.specs.Checks as words;
+ghost use Rattle.iofd_steps.specs.After.{changed};
+ghost use Rattle.iofd_steps.specs.Answers.{Answers};
+ghost use Rattle.iofd_refusals.specs.Checks as words;
 ghost use Rattle.journal_audit_world.specs.Kept.{IsKept};
 ghost use Rattle.journal_audit_world.specs.Unwritten.{unwritten};
 

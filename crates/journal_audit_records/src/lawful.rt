@@ -1,9 +1,9 @@
 //! One record.
 
 ghost use Rattle.std.specs.Prelude.{◌≡◌, [], None, Some, IsTrue, IfOk};
-ghost use Rattle.iofd_words.specs.Answers.{Answers};
-ghost use Rattle.iofd_words.specs.Checks as words;
-ghost use Rattle.iofd_words.specs.Run.{Lawful, after};
+ghost use Rattle.iofd_steps.specs.Answers.{Answers};
+ghost use Rattle.iofd_refusals.specs.Checks as words;
+ghost use Rattle.iofd_steps.specs.Run.{Lawful, after};
 ghost use Rattle.journal_audit_world.specs.Decides.{Decides};
 ghost use Rattle.journal_audit_world.specs.Kept.{IsKept};
 ghost use Rattle.journal_audit_world.specs.Unwritten.{unwritten};

@@ -1,7 +1,7 @@
 //! Why events are refused.
 
 ghost use Rattle.std.specs.Prelude.{◌≡◌, IfOk};
-ghost use Rattle.iofd_words.specs.Checks as words;
+ghost use Rattle.iofd_refusals.specs.Checks as words;
 ghost use Rattle.journal_audit_world.specs.Kept.{IsKept};
 
 use iofd_words::{Cause, Event, NoMemory};

@@ -10,11 +10,11 @@ use Rattle.iofd_runs.proofs.MissingTables.{all_needed, has_needed, needed_places
 use Rattle.iofd_runs.proofs.NotRefused.{copy_passed, map_passed, passes}
 use Rattle.iofd_runs.proofs.StillTabled.{hwpts_same, live_paid, none_after, still_none_missing}
 use Rattle.iofd_runs.proofs.TableCounts.{lacking_mapped, missing_with_object, pages_stay}
-use Rattle.iofd_words.specs.After.{attached, changed, joined, made_hwpt, map_changes, copy_changes, hwpt_changes}
-use Rattle.iofd_words.specs.After.{mapped_area, settle, with_hwpt}
-use Rattle.iofd_words.specs.Answers.{Answers}
+use Rattle.iofd_steps.specs.After.{attached, changed, joined, made_hwpt, map_changes, copy_changes, hwpt_changes}
+use Rattle.iofd_steps.specs.After.{mapped_area, settle, with_hwpt}
+use Rattle.iofd_steps.specs.Answers.{Answers}
 use Rattle.iofd_words.specs.Areas.{all_paid, areas_of, is_of, with_area}
-use Rattle.iofd_words.specs.Checks.{refusal}
+use Rattle.iofd_refusals.specs.Checks.{refusal}
 use Rattle.iofd_words.specs.Copies.{placed_as, source_in}
 use Rattle.iofd_words.specs.Files.{device_of, user_of}
 use Rattle.iofd_words.specs.Objects.{automatic_hwpt, binding_of, has_ioas, is_ioas, kind_of, settings_under}

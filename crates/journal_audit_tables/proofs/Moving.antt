@@ -9,9 +9,9 @@ use Rattle.iofd_runs.proofs.MissingTables.{is_owned}
 use Rattle.iofd_runs.proofs.OwnIds.{keeps_own_ids}
 use Rattle.iofd_runs.proofs.SameTables.{same_tables}
 use Rattle.iofd_runs.proofs.StillTabled.{MakesNone, TakesNone, none_after, none_given, owned_after}
-use Rattle.iofd_words.specs.After.{changed}
-use Rattle.iofd_words.specs.Answers.{Answers}
-use Rattle.iofd_words.specs.Checks.{refusal}
+use Rattle.iofd_steps.specs.After.{changed}
+use Rattle.iofd_steps.specs.Answers.{Answers}
+use Rattle.iofd_refusals.specs.Checks.{refusal}
 use Rattle.iofd_words.specs.Frames.{is_free}
 use Rattle.iofd_words.specs.Tables.{MovesTables, are_different, are_rising, in_frames, is_among, is_orphan}
 use Rattle.iofd_words.specs.Tables.{kept_tables, may_go, missing_tables, tables_after, with_tables}

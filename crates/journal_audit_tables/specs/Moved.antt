@@ -1,9 +1,9 @@
 -- Which frames of tables a record moves, told over the world that its event has left.
 use Rattle.std.specs.Prelude.{◌≡◌, ℕ, Bool, true, false, ◌==◌, ◌&&◌, ◌||◌, not, Option, Some, None, List, ◌++◌, length}
 use Rattle.std.specs.List.{list_all, list_any}
-use Rattle.iofd_words.specs.After.{changed}
-use Rattle.iofd_words.specs.Answers.{Answers}
-use Rattle.iofd_words.specs.Checks.{refusal}
+use Rattle.iofd_steps.specs.After.{changed}
+use Rattle.iofd_steps.specs.Answers.{Answers}
+use Rattle.iofd_refusals.specs.Checks.{refusal}
 use Rattle.iofd_words.specs.Frames.{is_free}
 use Rattle.iofd_words.specs.Objects.{kind_of}
 use Rattle.iofd_words.specs.Tables.{are_different, are_rising, in_frames, is_among, is_below_root, is_idle}

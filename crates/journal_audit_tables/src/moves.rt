@@ -1,7 +1,7 @@
 //! The frames of tables that a record takes and gives back.
 
 ghost use Rattle.std.specs.Prelude.{◌≡◌, ◌≤◌, ◌++◌, length, ℕ, IsTrue, IfOk};
-ghost use Rattle.iofd_words.specs.After.{changed};
+ghost use Rattle.iofd_steps.specs.After.{changed};
 ghost use Rattle.iofd_words.specs.Tables.{MovesTables, in_frames, with_tables};
 ghost use Rattle.iofd_words.specs.World as words;
 ghost use Rattle.journal_audit_tables.specs.Coming.{ComingFits};

@@ -4,9 +4,9 @@ use Rattle.std.proofs.Common.{◌∙◌, arith}
 use Rattle.std.specs.List.{filter, list_all, list_any}
 use Rattle.std.proofs.lemmas.Bool.Decides.{nat_tests}
 use Rattle.std.proofs.lemmas.List.Folds.{list_any-append}
-use Rattle.iofd_words.specs.After.{changed}
-use Rattle.iofd_words.specs.Answers.{Answers}
-use Rattle.iofd_words.specs.Checks.{refusal}
+use Rattle.iofd_steps.specs.After.{changed}
+use Rattle.iofd_steps.specs.Answers.{Answers}
+use Rattle.iofd_refusals.specs.Checks.{refusal}
 use Rattle.iofd_words.specs.Frames.{is_free, is_reached}
 use Rattle.iofd_words.specs.Settings.{Settings}
 use Rattle.iofd_words.specs.Tables.{MissingTable, MovesTables, are_different, in_frames, is_among, kept_tables}

@@ -1,6 +1,6 @@
 -- What every run keeps.
 use Rattle.std.proofs.Common.{◌≡◌, true, List, length, refl, arith}
-use Rattle.iofd_words.specs.Run.{IsRun, world_of}
+use Rattle.iofd_steps.specs.Run.{IsRun, world_of}
 use Rattle.iofd_words.specs.Settings.{Settings}
 use Rattle.iofd_words.specs.Tables.{with_tables}
 use Rattle.iofd_words.specs.World.{opening}

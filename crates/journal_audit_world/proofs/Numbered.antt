@@ -8,9 +8,9 @@ use Rattle.iofd_rows.proofs.Found.{all_filter}
 use Rattle.iofd_runs.proofs.KeepsPins.{keeps_pins, later_pinned, opening_pinned, tabled_pinned}
 use Rattle.iofd_runs.proofs.Moves.{AreasMove, FewerAreas, MemoryUnder, NewMemory, OneArea, OtherPhases, SameAreas}
 use Rattle.iofd_runs.proofs.Moves.{SharedMemory, changed_moves}
-use Rattle.iofd_words.specs.After.{changed, memory_object}
-use Rattle.iofd_words.specs.Answers.{Answers}
-use Rattle.iofd_words.specs.Checks.{refusal}
+use Rattle.iofd_steps.specs.After.{changed, memory_object}
+use Rattle.iofd_steps.specs.Answers.{Answers}
+use Rattle.iofd_refusals.specs.Checks.{refusal}
 use Rattle.iofd_words.specs.Settings.{Settings}
 use Rattle.iofd_words.specs.Tables.{with_tables}
 use Rattle.iofd_words.specs.World.{World, opening}

@@ -10,7 +10,7 @@ use Rattle.iofd_rows.proofs.ListTests.{any-filter, any_weaker, filter_alike_on, 
 use Rattle.iofd_rows.proofs.ObjectPages.{has_page, in_pinned, is_listed, listed_is}
 use Rattle.iofd_rows.proofs.PageLists.{all_pages}
 use Rattle.iofd_runs.proofs.PagesToPin.{pages_in}
-use Rattle.iofd_words.specs.After.{settle}
+use Rattle.iofd_steps.specs.After.{settle}
 use Rattle.iofd_words.specs.Objects.{has_hwpt}
 use Rattle.iofd_words.specs.Pins.{ObjectPage, covers_page, is_accessed, is_page, is_pinned, is_translated, page_of_pin}
 use Rattle.iofd_words.specs.Pins.{pin_now}

@@ -100,7 +100,7 @@ pub(crate) fn pin_run<A: Allocator + Copy, B: Allocator, C: Allocator, D: Alloca
         .pages
         .pin_run_reserved(run.first, run.count, users, pool, accounts);
     // What accesses pin are pages of the object.
-    let _ = entry.pages.table_pins();
+    entry.pages.facts();
 }
 
 /// Takes one pin by an access off each page of the run. It takes no memory.
@@ -132,5 +132,5 @@ pub(crate) fn unpin_run<A: Allocator + Copy, B: Allocator, C: Allocator>(
         .pages
         .unpin_by_access(run.first, run.count, pool, accounts);
     // What accesses pin are pages of the object.
-    let _ = entry.pages.table_pins();
+    entry.pages.facts();
 }

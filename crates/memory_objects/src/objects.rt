@@ -72,6 +72,13 @@ impl<A: Allocator> MemoryObjects<A> {
         }
     }
 
+    /// What holds of the memory objects: their number is one of 64 bits. The call does nothing else.
+    pub fn facts(&self)
+        ensures { length self.now.objects < 2 ^ 64 }
+    {
+        let _ = self.len();
+    }
+
     /// How many objects there are.
     pub fn len(&self) -> usize
         ensures count { result ≡ length self.now.objects }
@@ -172,7 +179,7 @@ impl<A: Allocator> MemoryObjects<A> {
         ensures invariant { MemoryInvariant self.new.objects }
     {
         // Where no page table pins them they have no frames.
-        let _ = pages.table_pins();
+        pages.facts();
         self.gone = removal::make_way(&mut self.entries, self.gone, number);
         self.entries.push_reserved(Entry {
             number,

@@ -91,6 +91,13 @@ impl<V, A: Allocator> ObjectTable<V, A> {
         }
     }
 
+    /// What holds of every file: it has at most 65,535 objects. The call does nothing else.
+    pub fn facts(&self, file: FileNo)
+        ensures { length (rows_of self.now file) ≤ greatest_count }
+    {
+        let _ = self.count(file);
+    }
+
     /// How many objects the file has: at most 65,535, and none where it is closed or unknown. It doesn't count them.
     pub fn count(&self, file: FileNo) -> usize
         ensures count { result ≡ length (rows_of self.now file) }

@@ -125,6 +125,16 @@ impl<A: Allocator> Pages<A> {
         self.writable
     }
 
+    /// What holds of the pages of every memory object: where no page table pins them they have no frames, else one
+    /// each, and those that access objects pin are counted. The call does nothing else.
+    pub fn facts(&self)
+        ensures pinned { 0 < self.now.pages.table_pins → length self.now.pages.frames ≡ self.now.pages.count }
+        ensures unpinned { self.now.pages.table_pins ≡ 0 → self.now.pages.frames ≡ [] }
+        ensures counted { IsTrue (are_counted self.now.pages.count self.now.pages.access) }
+    {
+        let _ = &self.table_pins;
+    }
+
     /// How many pins by page tables stand on the pages. They are pinned, all of them, where it isn't 0.
     pub fn table_pins(&self) -> u64
         ensures value { result ≡ self.now.pages.table_pins }

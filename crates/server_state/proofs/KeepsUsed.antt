@@ -17,13 +17,13 @@ use Rattle.iofd_runs.proofs.StillTabled.{hwpts_reattached}
 use Rattle.iofd_runs.proofs.NotRefused.{destroy_passed}
 use Rattle.iofd_runs.specs.Fits.{begins_at_page}
 use Rattle.iofd_runs.specs.Tabled.{AreTabled}
-use Rattle.iofd_words.specs.After.{changed, mapped_area, settle, without_areas}
+use Rattle.iofd_steps.specs.After.{changed, mapped_area, settle, without_areas}
 use Rattle.iofd_runs.proofs.OwnIds.{keeps_own_ids}
 use Rattle.iofd_runs.proofs.SameTables.{same_tables}
 use Rattle.iofd_words.specs.Areas.{areas_meet, areas_of, is_of, with_phase}
 use Rattle.iofd_words.specs.Bounds.{Bounds}
-use Rattle.iofd_words.specs.Answers.{Answers}
-use Rattle.iofd_words.specs.Checks.{is_used, refusal}
+use Rattle.iofd_steps.specs.Answers.{Answers}
+use Rattle.iofd_refusals.specs.Checks.{is_used, refusal}
 use Rattle.iofd_words.specs.Levels.{levels_of}
 use Rattle.iofd_words.specs.Objects.{has_hwpt, has_ioas, is_hwpt, is_hwpt_over, is_ioas, kind_of}
 use Rattle.iofd_words.specs.View.{view}

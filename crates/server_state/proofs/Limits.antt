@@ -1,7 +1,7 @@
 -- What users may have pinned.
 use Rattle.std.proofs.Common.{◌≡◌, ℕ, ◌+◌, true, false, ltb, leb, Option, Some, None, is_some, ◌∙◌, ap, arith}
 use Rattle.std.proofs.lemmas.Bool.Decides.{nat_tests}
-use Rattle.iofd_words.specs.Checks.{passes_limit}
+use Rattle.iofd_refusals.specs.Checks.{passes_limit}
 use Rattle.iofd_words.specs.Files.{is_user, limit_of}
 use Rattle.iofd_words.specs.World.{World}
 use Rattle.iofd_words.specs.declared.numbers.UserNo.{UserNo}

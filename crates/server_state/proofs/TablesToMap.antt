@@ -16,7 +16,7 @@ use Rattle.iofd_rows.proofs.Unusable.{by_rows}
 use Rattle.iofd_rows.specs.Reached.{ends_in}
 use Rattle.iofd_runs.proofs.TableCounts.{lacking_alike}
 use Rattle.iofd_words.specs.Bounds.{Bounds}
-use Rattle.iofd_words.specs.Checks as checks
+use Rattle.iofd_refusals.specs.Checks as checks
 use Rattle.iofd_words.specs.Limits.{first_outside}
 use Rattle.iofd_words.specs.Objects.{is_hwpt, is_hwpt_over}
 use Rattle.iofd_words.specs.Ranges.{meets_some}

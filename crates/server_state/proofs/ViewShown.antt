@@ -7,7 +7,7 @@ use Rattle.std.specs.List.{find, list_all, list_any, range_with_len}
 use Rattle.std.proofs.Math.Path.{fun_ext}
 use Rattle.iofd_words.specs.Allowed.{allowed_of}
 use Rattle.iofd_words.specs.Areas as area
-use Rattle.iofd_words.specs.Checks.{checks, refusal}
+use Rattle.iofd_refusals.specs.Checks.{checks, refusal}
 use Rattle.dirty_bitmap.specs.Tracking.{is_tracked}
 use Rattle.iofd_words.specs.Dirty as dirty
 use Rattle.iofd_words.specs.Files as file
@@ -30,7 +30,7 @@ use Rattle.frame_memory.specs.Pool.{free_count, least_free}
 use Rattle.user_memory_rows.proofs.FramesFollow.{free_count_alike, least_alike}
 use Rattle.user_memory.specs.Memory as kept
 use Rattle.iofd_words.specs.FirstTrue.{first_true}
-use Rattle.iofd_words.specs.Look.{query_checks}
+use Rattle.iofd_steps.specs.Look.{query_checks}
 use Rattle.iofd_words.specs.Objects as object
 use Rattle.iofd_words.specs.Policy.{access_outcomes, outcomes}
 use Rattle.iofd_words.specs.TablePlaces.{has_table}

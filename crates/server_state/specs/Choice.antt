@@ -6,8 +6,8 @@ use Rattle.std.specs.Prelude.{◌∷◌, filter}
 use Rattle.std.specs.Prelude.{find, length, map, take, Contains}
 use Rattle.std.specs.List.{list_all, list_any, range_with_len}
 use Rattle.std.specs.Option.{option_map}
-use Rattle.iofd_words.specs.Answers.{write_reply}
-use Rattle.iofd_words.specs.Checks.{may_choose}
+use Rattle.iofd_steps.specs.Answers.{write_reply}
+use Rattle.iofd_refusals.specs.Checks.{may_choose}
 use Rattle.iofd_words.specs.Frames.{is_free}
 use Rattle.iofd_words.specs.Policy.{Outcome, Passes, Denied, outcomes}
 use Rattle.iofd_words.specs.Copies.{placed_as}

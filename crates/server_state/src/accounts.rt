@@ -1,7 +1,7 @@
 //! What users may have pinned.
 
 ghost use Rattle.std.specs.Prelude.{◌≡◌, IfSome, IsTrue};
-ghost use Rattle.iofd_words.specs.Checks.{passes_limit};
+ghost use Rattle.iofd_refusals.specs.Checks.{passes_limit};
 ghost use Rattle.iofd_words.specs.Files.{is_user, user_of};
 ghost use Rattle.server_state.specs.Seen.{seen};
 ghost use Rattle.server_state.specs.Step.{IsKnown};
@@ -26,7 +26,6 @@ pub fn user_of<A: Allocator>(config: &Config<A>, file: FileNo) -> Option<UserNo>
     ensures value { result ≡ user_of config.now file }
     ensures known { IfSome result (λ user. IsTrue (is_user config.now user)) }
 {
-    // Its clause says that the configuration is within its limits.
-    let _ = config.pool();
+    config.facts();
     config.user_of(file)
 }

@@ -3,10 +3,10 @@
 ghost use Rattle.std.specs.Prelude.{◌≡◌, ◌<◌, ◌==◌, not, true, None, [], length, map};
 ghost use Rattle.std.specs.Prelude.{OnErr, OnOk, MatchOption};
 ghost use Rattle.std.specs.List.{list_any};
-ghost use Rattle.area_map_rows.specs.Areas.{AreKept, areas_outside, areas_within, marked, tried, with_area};
+ghost use Rattle.area_map_rows.specs.Areas.{areas_outside, marked, tried, with_area};
 ghost use Rattle.area_map.specs.Insertion.{insert_refusal};
 ghost use Rattle.held_pins.specs.HeldPins.{are_met};
-ghost use Rattle.iofd_words.specs.Areas.{all_paid, is_held_back, most_tries, owed_by};
+ghost use Rattle.iofd_words.specs.Areas.{all_paid, is_held_back, owed_by};
 ghost use Rattle.iofd_words.specs.Objects.{has_ioas, is_ioas};
 ghost use Rattle.server_state.specs.Held.{areas_at, areas_in, kind_in, objects_in, room_at, room_in};
 ghost use Rattle.server_state.specs.Spaces.{IsOrderly, IsWith, HasAreas};
@@ -94,22 +94,6 @@ pub fn own_areas<A: Allocator>(
     }
 }
 
-/// The areas of the address space that lie in the span; none where there is no such address space.
-pub fn areas_within<'a, A: Allocator>(
-    table: &'a ObjectTable<Held<A>, A>,
-    file: FileNo,
-    ioas: ObjId,
-    span: Span,
-) -> Iter<'a, A>
-    ensures areas { result ≡ areas_within span (own_areas table.now file ioas) }
-    ensures kept { AreKept (own_areas table.now file ioas) }
-{
-    let Some(areas) = own_areas(table, file, ioas) else {
-        return Iter::empty();
-    };
-    areas.within(span)
-}
-
 /// Whether one of these areas of the address space may not go yet: a device still has to flush, one of those attached
 /// for a live area and one of those that it waits for for a leaving area, or an access object has pinned pages of it.
 pub fn some_waits<A: Allocator>(
@@ -157,21 +141,6 @@ fn mark_held<A: Allocator>(held: &mut Held<A>, span: Span, owed: &DeviceSet)
 {
     if let Held::Ioas(areas) = held {
         areas.mark_leaving(span, owed);
-    }
-}
-
-/// The most tries that an area of the address space in the span has seen; 0 where there is none.
-pub fn most_tries<A: Allocator>(
-    table: &ObjectTable<Held<A>, A>,
-    file: FileNo,
-    ioas: ObjId,
-    span: Span,
-) -> u8
-    ensures { result ≡ most_tries (areas_within span (own_areas table.now file ioas)) }
-{
-    match own_areas(table, file, ioas) {
-        Some(areas) => areas.most_tries(span),
-        None => 0,
     }
 }
 

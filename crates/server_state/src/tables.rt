@@ -3,7 +3,7 @@
 ghost use Rattle.std.specs.Prelude.{◌≡◌, false, true, length};
 ghost use Rattle.std.specs.List.{list_all, list_any};
 ghost use Rattle.iofd_runs.specs.Fits.{begins_at_page, is_of_pages};
-ghost use Rattle.iofd_words.specs.Checks.{tables_to_map};
+ghost use Rattle.iofd_refusals.specs.Checks.{tables_to_map};
 ghost use Rattle.iofd_words.specs.Ranges.{meets_some};
 ghost use Rattle.iofd_words.specs.Span.{is_whole_pages, meets};
 ghost use Rattle.iofd_words.specs.TablePlaces.{lacking, live_pages, places_of};
@@ -30,8 +30,8 @@ impl<A: Allocator> State<A> {
             ≡ false }
         ensures { result ≡ tables_to_map (seen self.now) file ioas span }
     {
-        // Its clause says that the configuration is within its limits: so there are few page tables.
-        let _ = self.config.pool();
+        // It is within its limits: so there are few page tables.
+        self.config.facts();
         self.page_tables.needs(&self.pool, file, ioas, span)
     }
 
@@ -62,8 +62,8 @@ fn tables_for<A: Allocator>(width: Width, areas: &Areas<A>) -> u64
 {
     match areas.first_reaching(width.end()) {
         Some(area) => {
-            // Never: no area reaches beyond the width. Its last address is one of 64 bits.
-            let _ = area.span.last();
+            // Never: no area reaches beyond the width.
+            area.span.facts();
             unreachable!()
         }
         None => page_table_spans::tables_for(width, areas),

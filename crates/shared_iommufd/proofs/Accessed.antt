@@ -4,7 +4,7 @@ use Rattle.std.proofs.Common.{append-nil, is_none, sym, ap, subst, ◌∙◌}
 use Rattle.std.specs.List.{list_any}
 use Rattle.iofd_interleavings.proofs.KeepsSound.{no_cause}
 use Rattle.iofd_rows.proofs.Bools.{and_true}
-use Rattle.iofd_words.specs.Checks.{access_checks, device_write_checks, refusal}
+use Rattle.iofd_refusals.specs.Checks.{access_checks, device_write_checks, refusal}
 use Rattle.iofd_words.specs.FirstTrue.{first_true}
 use Rattle.iofd_words.specs.Policy.{is_pass_at, outcomes}
 use Rattle.iofd_words.specs.View.{view}
@@ -25,9 +25,9 @@ use Rattle.guarded_core.specs.declared.try_error.TryError.TheVariants as tried
 use Rattle.guarded_core.proofs.Guards.{commit_sees}
 use Rattle.shared_iommufd.specs.Made.{Makes}
 use Rattle.iofd_words.specs.Files.{is_device}
-use Rattle.iofd_words.specs.Look.{answers_to}
+use Rattle.iofd_steps.specs.Look.{answers_to}
 use Rattle.iofd_words.specs.Pages.{page_of}
-use Rattle.iofd_words.specs.Run.{IsRun}
+use Rattle.iofd_steps.specs.Run.{IsRun}
 use Rattle.iofd_words.specs.Settings.{Settings}
 use Rattle.iofd_words.specs.Turns.{turns_of}
 use Rattle.iofd_words.specs.declared.fault.AccessKind.{AccessKind}

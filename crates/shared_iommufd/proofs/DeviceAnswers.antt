@@ -10,17 +10,17 @@ use Rattle.iofd_runs.proofs.Known.{bound_known}
 use Rattle.iofd_runs.proofs.NotRefused.{write_passed}
 use Rattle.iofd_runs.proofs.Runs.{lawful_at, run_beginning, tests_false}
 use Rattle.iofd_runs.specs.Fits.{RowsFit}
-use Rattle.iofd_words.specs.Answers.{Answers, write_reply}
+use Rattle.iofd_steps.specs.Answers.{Answers, write_reply}
 use Rattle.iofd_words.specs.Attachments.{attachment_of}
-use Rattle.iofd_words.specs.Checks.{access_checks, refusal}
+use Rattle.iofd_refusals.specs.Checks.{access_checks, refusal}
 use Rattle.iofd_words.specs.Files.{device_of, is_device}
 use Rattle.iofd_words.specs.FirstTrue.{first_true}
 use Rattle.iofd_words.specs.Frames.{byte_at}
-use Rattle.iofd_words.specs.Look.{answers_in, answers_to, read_answer}
+use Rattle.iofd_steps.specs.Look.{answers_in, answers_to, read_answer}
 use Rattle.iofd_words.specs.Objects.{binding_of}
 use Rattle.iofd_words.specs.Pages.{offset_of}
 use Rattle.iofd_words.specs.Policy.{Denied, Outcome, Passes, access_outcomes, by_width, outcomes, translated}
-use Rattle.iofd_words.specs.Run.{IsAnswer, IsRun, Lawful, world_of}
+use Rattle.iofd_steps.specs.Run.{IsAnswer, IsRun, Lawful, world_of}
 use Rattle.iofd_words.specs.Settings.{DeviceSettings, Settings}
 use Rattle.iofd_words.specs.View.{view}
 use Rattle.iofd_words.specs.Width.{bits_of}

@@ -1,6 +1,6 @@
 -- What the lock says of its end, said of settings and records.
 use Rattle.std.proofs.Common.{◌≡◌, ℕ, ◌<◌, ◌≤◌, List, [], length, drop, slice_get, Some, sym, ◌∙◌, ap, subst}
-use Rattle.iofd_words.specs.Run.{IsRun}
+use Rattle.iofd_steps.specs.Run.{IsRun}
 use Rattle.iommufd_core.specs.History.{History}
 use Rattle.lane_lock.specs.Ending.{HasNumber}
 use Rattle.lane_lock.specs.History.{Legal, StartsWith, made_by}

@@ -3,8 +3,8 @@ use Rattle.std.proofs.Common.{◌≡◌, ℕ, List, [], ◌∷◌, ◌++◌, len
 use Rattle.std.proofs.Common.{append-nil, Result, Ok, Err, Vec}
 use Rattle.std.proofs.lemmas.List.{append_cancel_left}
 use Rattle.iofd_words.specs.Bounds.{Bounds}
-use Rattle.iofd_words.specs.Look.{answers_to}
-use Rattle.iofd_words.specs.Run.{IsRun}
+use Rattle.iofd_steps.specs.Look.{answers_to}
+use Rattle.iofd_steps.specs.Run.{IsRun}
 use Rattle.iofd_words.specs.Settings.{Settings}
 use Rattle.iofd_words.specs.declared.call_error.CallError.{CallError}
 use Rattle.iofd_words.specs.declared.call_error.CallError.TheVariants as error

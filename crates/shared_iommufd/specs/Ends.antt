@@ -1,6 +1,6 @@
 -- What a server gives back at its end.
 use Rattle.std.specs.Prelude.{◌≡◌, ℕ, ◌<◌, ◌≤◌, List, [], drop, slice_get, Some}
-use Rattle.iofd_words.specs.Run.{IsRun}
+use Rattle.iofd_steps.specs.Run.{IsRun}
 use Rattle.iommufd_core.specs.History.{History}
 use Rattle.lane_lock.specs.Ending.{HasNumber}
 use Rattle.lane_lock.specs.History.{Legal, made_by}

@@ -3,7 +3,7 @@ use Rattle.std.specs.Prelude.{◌≡◌, ◌⊎◌, ℕ, false, Option, Some, No
 use Rattle.std.specs.declared.alloc.Global.{Global}
 use Rattle.iofd_words.specs.Bounds.{Bounds}
 use Rattle.iofd_words.specs.FirstTrue.{first_true}
-use Rattle.iofd_words.specs.Look.{AreUsableRanges, ranges_checks}
+use Rattle.iofd_steps.specs.Look.{AreUsableRanges, ranges_checks}
 use Rattle.iofd_words.specs.Refusal as refusals
 use Rattle.iofd_words.specs.Settings.{Settings}
 use Rattle.iofd_words.specs.View.{view}

@@ -1,7 +1,7 @@
 -- A port's reads.
 use Rattle.std.specs.Prelude.{◌≡◌, ℕ, ◌+◌, ◌-◌, ◌<◌, None, Result, Ok, Err, List, ◌++◌, length, drop}
 use Rattle.std.specs.Prelude.{Contains}
-use Rattle.iofd_words.specs.Look.{answers_to}
+use Rattle.iofd_steps.specs.Look.{answers_to}
 use Rattle.iofd_words.specs.Pages.{page_of}
 use Rattle.iofd_words.specs.Settings.{Settings}
 use Rattle.iofd_words.specs.Turns.{turns_of}

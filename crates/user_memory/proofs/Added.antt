@@ -5,8 +5,7 @@ use Rattle.std.specs.List.{filter_map, list_all, range_with_len, slice_get}
 use Rattle.std.proofs.lemmas.Bool.Decides.{nat_tests}
 use Rattle.std.proofs.lemmas.Bool.{and_from, and_parts, eq-eqb, eqb-true, le-leb, ltb-true, ne_eqb}
 use Rattle.std.proofs.lemmas.List.Folds.{list_all-append}
-use Rattle.iofd_words.specs.Checks as checks
-use Rattle.iofd_words.specs.Frames.{frame_at}
+use Rattle.iofd_words.specs.Frames.{frame_at, has_pages}
 use Rattle.iofd_words.specs.Pages.{page_of}
 use Rattle.iofd_words.specs.declared.rows.MemoryObject.{MemoryObject}
 use Rattle.iofd_words.specs.declared.rows.UserPage.{UserPage}
@@ -37,7 +36,7 @@ use Rattle.user_memory.proofs.Users.{limits_of, limits_stay, room_seen}
 
 pub may_pin : (rows : List UserPage) (accounts : List Account) (old : List MemoryEntry)
     (tell : AccountsTell accounts old) (holds : List ℕ) (row : MemoryObject) → row.va + row.count * 4096 ≤ 2 ^ 48
-    → checks.has_pages (frame_at rows) row.user (page_of row.va) row.count ≡ true
+    → has_pages (frame_at rows) row.user (page_of row.va) row.count ≡ true
     → memory.has_room (memory_of rows (limits_of accounts) old) row.user row.count ≡ true
     → IsBacked (memory_of rows (limits_of accounts) old) holds → length rows < 2 ^ 64 → length old < 2 ^ 64
     → MayPin rows holds accounts row
@@ -74,7 +73,7 @@ none_at (o ∷ objects) number below =
 -- ---- the object
 
 module _ (rows : List UserPage) (row : MemoryObject) (pinned : Bool) (capacity spare : ℕ) (present : pinned ≡ true
-    → checks.has_pages (frame_at rows) row.user (page_of row.va) row.count ≡ true) where
+    → has_pages (frame_at rows) row.user (page_of row.va) row.count ≡ true) where
   -- as it stands in the list
   abbrev pub entry_of : MemoryEntry
   entry_of = record {
@@ -86,7 +85,7 @@ module _ (rows : List UserPage) (row : MemoryObject) (pinned : Bool) (capacity s
   framed : length (cond pinned (frames_of rows row) []) ≡ cond pinned row.count 0
   framed = by_pinned pinned present
     where
-      by_pinned : (b : Bool) → (b ≡ true → checks.has_pages (frame_at rows) row.user (page_of row.va) row.count ≡ true)
+      by_pinned : (b : Bool) → (b ≡ true → has_pages (frame_at rows) row.user (page_of row.va) row.count ≡ true)
           → length (cond b (frames_of rows row) []) ≡ cond b row.count 0
       by_pinned true there = all_framed rows row.user (page_of row.va) row.count (there refl)
       by_pinned false there = refl
@@ -108,7 +107,7 @@ module _ (rows : List UserPage) (row : MemoryObject) (pinned : Bool) (capacity s
       ≡ cond pinned (cond (ltb i row.count) (frame_at rows row.user (page_of row.va + i)) None) None
   entry_frame i = by_pinned pinned present
     where
-      by_pinned : (b : Bool) → (b ≡ true → checks.has_pages (frame_at rows) row.user (page_of row.va) row.count ≡ true)
+      by_pinned : (b : Bool) → (b ≡ true → has_pages (frame_at rows) row.user (page_of row.va) row.count ≡ true)
           → slice_get (cond b (frames_of rows row) []) i
           ≡ cond b (cond (ltb i row.count) (frame_at rows row.user (page_of row.va + i)) None) None
       by_pinned true there =
@@ -152,7 +151,7 @@ none_pinned rows row false none =
 
 module _ (rows : List UserPage) (accounts : List Account) (old : List MemoryEntry) (tell : AccountsTell accounts old)
     (row : MemoryObject) (pinned : Bool) (capacity spare : ℕ) (present : pinned ≡ true
-    → checks.has_pages (frame_at rows) row.user (page_of row.va) row.count ≡ true) (below : are_below old
+    → has_pages (frame_at rows) row.user (page_of row.va) row.count ≡ true) (below : are_below old
     row.number ≡ true) where
   abbrev pub entry : MemoryEntry
   entry = entry_of rows row pinned capacity spare present

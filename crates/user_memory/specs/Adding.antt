@@ -1,7 +1,6 @@
 -- The pages of a memory object that comes.
 use Rattle.std.specs.Prelude.{ℕ, ◌≡◌, Bool, true, List, [], if◌then◌else◌}
-use Rattle.iofd_words.specs.Checks.{has_pages}
-use Rattle.iofd_words.specs.Frames.{frame_at}
+use Rattle.iofd_words.specs.Frames.{frame_at, has_pages}
 use Rattle.iofd_words.specs.Pages.{page_of}
 use Rattle.iofd_words.specs.declared.numbers.FrameNo.{FrameNo}
 use Rattle.iofd_words.specs.declared.rows.MemoryObject.{MemoryObject}

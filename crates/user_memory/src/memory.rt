@@ -7,7 +7,6 @@ ghost use Rattle.std.specs.Prelude.{IsSome, IfOk, IfSome};
 ghost use Rattle.std.specs.Prelude.{OnOk, OnErr};
 ghost use Rattle.std.specs.List.{list_all, list_any};
 ghost use Rattle.std.specs.List.Sorted.{IsNonDecreasing};
-ghost use Rattle.iofd_words.specs.Checks as checks;
 ghost use Rattle.iofd_words.specs.Copies as copies;
 ghost use Rattle.iofd_words.specs.Files.{numbered};
 ghost use Rattle.iofd_words.specs.Frames as frames;
@@ -88,7 +87,7 @@ impl<A: Allocator + Copy> UserMemory<A> {
         requires end { row.va + row.count * 4096 ≤ 2 ^ 48 }
         requires user { IsSome (numbered self.old.limits row.user.0) }
         requires rises { list_all (λ other. nat_lt other.number row.number) (rows_of self.old) ≡ true }
-        requires present { pinned ≡ true → checks.has_pages (frames.frame_at self.old.pages) row.user
+        requires present { pinned ≡ true → frames.has_pages (frames.frame_at self.old.pages) row.user
             (page_of row.va) row.count ≡ true }
         requires room { pinned ≡ true → has_room self.old row.user row.count ≡ true }
         requires backed { IsBacked self.old pool.old.holds }
@@ -99,8 +98,9 @@ impl<A: Allocator + Copy> UserMemory<A> {
         ensures pool_err { OnErr result (pool.new ≡ pool.old) }
     {
         self.objects.reserve()?;
-        // As many pages and pins as memory can hold leave room for the holds.
-        let _ = (self.users.len(), self.objects.len());
+        // So many pages and pins leave room for the holds.
+        self.users.facts();
+        self.objects.facts();
         let pages = adding::object_pages(
             self.alloc,
             row,
@@ -125,7 +125,7 @@ impl<A: Allocator> UserMemory<A> {
     /// Whether the user's pages from this user address on, so many of them, are in the user's memory.
     pub fn has_pages(&self, user: UserNo, va: u64, count: u64) -> bool
         requires { page_of va + count < 2 ^ 64 }
-        ensures { result ≡ checks.has_pages (frames.frame_at self.now.pages) user (page_of va) count }
+        ensures { result ≡ frames.has_pages (frames.frame_at self.now.pages) user (page_of va) count }
     {
         for index in 0..count {
             let page = va / PAGE_SIZE + index;
@@ -286,8 +286,9 @@ impl<A: Allocator> UserMemory<A> {
         ensures pool_err { OnErr result (pool.new ≡ pool.old) }
     {
         self.objects.reserve_frames(numbers)?;
-        // As many pages and pins as memory can hold leave room for the holds.
-        let _ = (self.users.len(), self.objects.len());
+        // So many pages and pins leave room for the holds.
+        self.users.facts();
+        self.objects.facts();
         self.objects
             .pin_by_table(numbers, &self.users, pool, &mut self.accounts);
         Ok(())
@@ -351,8 +352,9 @@ impl<A: Allocator> UserMemory<A> {
         ensures pool_err { OnErr result (pool.new ≡ pool.old) }
     {
         self.objects.reserve_frames(&[number])?;
-        // As many pages and pins as memory can hold leave room for the holds.
-        let _ = (self.users.len(), self.objects.len());
+        // So many pages and pins leave room for the holds.
+        self.users.facts();
+        self.objects.facts();
         self.objects.add_area(number);
         self.objects
             .pin_by_table(&[number], &self.users, pool, &mut self.accounts);
@@ -430,8 +432,9 @@ impl<A: Allocator> UserMemory<A> {
         ensures pool_err { OnErr result (pool.new ≡ pool.old) }
     {
         self.objects.reserve_for_access(run)?;
-        // As many pages and pins as memory can hold leave room for the holds.
-        let _ = (self.users.len(), self.objects.len());
+        // So many pages and pins leave room for the holds.
+        self.users.facts();
+        self.objects.facts();
         self.objects
             .pin_by_access(run, &self.users, pool, &mut self.accounts);
         Ok(())

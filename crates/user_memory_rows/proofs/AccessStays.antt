@@ -6,9 +6,9 @@ use Rattle.iofd_rows.specs.Pinned.{ArePinned}
 use Rattle.iofd_runs.proofs.Accessed.{EachHeld, each_held, new_uncovered, of_areas}
 use Rattle.iofd_runs.proofs.KeepsPins.{keeps_pins}
 use Rattle.iofd_runs.proofs.Moves.{AreasMove, FewerAreas, Moves, OneArea, OtherPhases, SameAreas, changed_moves}
-use Rattle.iofd_words.specs.After.{changed, mapped_area}
-use Rattle.iofd_words.specs.Answers.{Answers}
-use Rattle.iofd_words.specs.Checks.{refusal}
+use Rattle.iofd_steps.specs.After.{changed, mapped_area}
+use Rattle.iofd_steps.specs.Answers.{Answers}
+use Rattle.iofd_refusals.specs.Checks.{refusal}
 use Rattle.iofd_words.specs.Pins.{ObjectPage}
 use Rattle.iofd_words.specs.World.{World}
 use Rattle.iofd_words.specs.declared.event.Event.{Event}

@@ -1,5 +1,5 @@
 use Rattle.std.proofs.Common.{refl}
-use Rattle.iofd_words.specs.Checks.{dirty_checks, dirty_enable_checks}
+use Rattle.iofd_refusals.specs.Checks.{dirty_checks, dirty_enable_checks}
 use Rattle.iofd_dirty_examples.proofs.dirty_commands_are_refused.Goals as goal
 
 pub returns-clause-all_enables : goal.returns-clause-all_enables

@@ -1,14 +1,14 @@
 use Rattle.std.proofs.Common.{arith, refl}
-use Rattle.iofd_words.specs.After.{attached, changed, detached, settle, without_areas}
-use Rattle.iofd_words.specs.Answers.{Answers}
-use Rattle.iofd_words.specs.Checks.{attach_checks, bind_checks, destroy_checks, detach_checks}
-use Rattle.iofd_words.specs.Checks.{device_write_checks, dirty_checks, dirty_enable_checks}
-use Rattle.iofd_words.specs.Checks.{hwpt_alloc_checks, ioas_alloc_checks, map_checks}
-use Rattle.iofd_words.specs.Checks.{user_map_checks, user_write_checks}
+use Rattle.iofd_steps.specs.After.{attached, changed, detached, settle, without_areas}
+use Rattle.iofd_steps.specs.Answers.{Answers}
+use Rattle.iofd_refusals.specs.Checks.{attach_checks, bind_checks, destroy_checks, detach_checks}
+use Rattle.iofd_refusals.specs.Checks.{device_write_checks, dirty_checks, dirty_enable_checks}
+use Rattle.iofd_refusals.specs.Checks.{hwpt_alloc_checks, ioas_alloc_checks, map_checks}
+use Rattle.iofd_refusals.specs.Checks.{user_map_checks, user_write_checks}
 use Rattle.iofd_words.specs.DirtyWords.{word_pages}
 use Rattle.iofd_words.specs.Levels.{number_at}
 use Rattle.iofd_words.specs.Policy.{access_outcomes, outcomes}
-use Rattle.iofd_words.specs.Run.{IsRun, Lawful, after}
+use Rattle.iofd_steps.specs.Run.{IsRun, Lawful, after}
 use Rattle.iofd_words.specs.Tables.{with_tables}
 use Rattle.iofd_dirty_examples.proofs.dirty_script_is_a_run.Goals as goal
 

@@ -1,11 +1,11 @@
 use Rattle.std.proofs.Common.{refl}
-use Rattle.iofd_words.specs.After.{attached, changed, detached, settle, without_areas}
-use Rattle.iofd_words.specs.Checks.{attach_checks, bind_checks, destroy_checks, detach_checks}
-use Rattle.iofd_words.specs.Checks.{device_write_checks, dirty_checks, dirty_enable_checks}
-use Rattle.iofd_words.specs.Checks.{hwpt_alloc_checks, ioas_alloc_checks, map_checks}
-use Rattle.iofd_words.specs.Checks.{user_map_checks, user_write_checks}
+use Rattle.iofd_steps.specs.After.{attached, changed, detached, settle, without_areas}
+use Rattle.iofd_refusals.specs.Checks.{attach_checks, bind_checks, destroy_checks, detach_checks}
+use Rattle.iofd_refusals.specs.Checks.{device_write_checks, dirty_checks, dirty_enable_checks}
+use Rattle.iofd_refusals.specs.Checks.{hwpt_alloc_checks, ioas_alloc_checks, map_checks}
+use Rattle.iofd_refusals.specs.Checks.{user_map_checks, user_write_checks}
 use Rattle.iofd_words.specs.Levels.{number_at}
-use Rattle.iofd_words.specs.Run.{after, world_of}
+use Rattle.iofd_steps.specs.Run.{after, world_of}
 use Rattle.iofd_words.specs.Tables.{with_tables}
 use Rattle.iofd_dirty_examples.proofs.dirty_script_leaves_its_worlds.Goals as goal
 

@@ -1,9 +1,9 @@
 use Rattle.std.proofs.Common.{arith, refl}
-use Rattle.iofd_words.specs.After.{changed}
-use Rattle.iofd_words.specs.Answers.{Answers}
-use Rattle.iofd_words.specs.Checks.{dirty_checks, dirty_enable_checks}
+use Rattle.iofd_steps.specs.After.{changed}
+use Rattle.iofd_steps.specs.Answers.{Answers}
+use Rattle.iofd_refusals.specs.Checks.{dirty_checks, dirty_enable_checks}
 use Rattle.iofd_words.specs.DirtyWords.{word_pages}
-use Rattle.iofd_words.specs.Run.{Lawful, after}
+use Rattle.iofd_steps.specs.Run.{Lawful, after}
 use Rattle.iofd_words.specs.Tables.{with_tables}
 use Rattle.iofd_dirty_examples.proofs.Never.{higher_word, lower_word, same_cause}
 use Rattle.iofd_dirty_examples.proofs.other_dirty_records_are_unlawful.Goals as goal

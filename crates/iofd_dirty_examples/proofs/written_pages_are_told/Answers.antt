@@ -1,7 +1,7 @@
 use Rattle.std.proofs.Common.{refl}
-use Rattle.iofd_words.specs.Checks.{dirty_checks}
+use Rattle.iofd_refusals.specs.Checks.{dirty_checks}
 use Rattle.iofd_words.specs.DirtyWords.{word_pages}
-use Rattle.iofd_words.specs.Look.{answers_in}
+use Rattle.iofd_steps.specs.Look.{answers_in}
 use Rattle.iofd_dirty_examples.proofs.written_pages_are_told.Goals as goal
 
 pub returns-clause-tracked : goal.returns-clause-tracked

@@ -1,4 +1,4 @@
-use Rattle.iofd_words.specs.Run.{world_of}
+use Rattle.iofd_steps.specs.Run.{world_of}
 use Rattle.iofd_promises_dirty.proofs.Told.{told_by_clear, told_by_look}
 use Rattle.iofd_promises_dirty.proofs.a_report_tells_the_marked_pages.Goals as goal
 

@@ -1,4 +1,4 @@
-use Rattle.iofd_words.specs.Run.{world_of}
+use Rattle.iofd_steps.specs.Run.{world_of}
 use Rattle.iofd_promises_dirty.proofs.Once.{one_row}
 use Rattle.iofd_promises_dirty.proofs.Runs.{row_of_tracked}
 use Rattle.iofd_promises_dirty.proofs.There.{has_table}

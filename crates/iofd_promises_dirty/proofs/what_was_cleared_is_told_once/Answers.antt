@@ -1,5 +1,5 @@
 use Rattle.std.proofs.Common.{[], ◌∷◌, ◌++◌}
-use Rattle.iofd_words.specs.Run.{world_of}
+use Rattle.iofd_steps.specs.Run.{world_of}
 use Rattle.iofd_promises.proofs.Steps.{run_before}
 use Rattle.iofd_promises_dirty.proofs.Clearing.{clean_after, clean_answer, clean_reply}
 use Rattle.iofd_promises_dirty.proofs.what_was_cleared_is_told_once.Goals as goal

@@ -1,8 +1,8 @@
 use Rattle.std.proofs.Common.{◌≡◌, true, None, ◌∙◌, refl}
 use Rattle.access_pins.proofs.Created.{create_taken}
 use Rattle.iofd_rows.proofs.Found.{find-with_object}
-use Rattle.iofd_words.specs.After.{changed}
-use Rattle.iofd_words.specs.Answers.{Answers}
+use Rattle.iofd_steps.specs.After.{changed}
+use Rattle.iofd_steps.specs.Answers.{Answers}
 use Rattle.iofd_words.specs.Objects.{is_bound_as, is_fresh}
 use Rattle.iofd_words.specs.declared.rows.ObjectKind.TheVariants as kind
 use Rattle.iofd_runs.proofs.Accessed.{each_held}

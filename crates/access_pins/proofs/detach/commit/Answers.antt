@@ -1,7 +1,7 @@
 use Rattle.std.proofs.Common.{sym, ◌∙◌}
 use Rattle.access_pins.proofs.Reattached.{never_loose, shows_detached}
-use Rattle.iofd_words.specs.After.{changed}
-use Rattle.iofd_words.specs.Answers.{Answers}
+use Rattle.iofd_steps.specs.After.{changed}
+use Rattle.iofd_steps.specs.Answers.{Answers}
 use Rattle.access_pins.proofs.detach.commit.Goals as goal
 
 pub unreachable-requires : goal.unreachable-requires

@@ -14,8 +14,8 @@ use Rattle.iofd_rows.proofs.Bools.{clash}
 use Rattle.iofd_rows.proofs.ListTests.{all_pass}
 use Rattle.iofd_runs.proofs.AccessPins.{pin_fits}
 use Rattle.iofd_runs.proofs.AccessesPassed.{pin_passed}
-use Rattle.iofd_words.specs.After.{changed}
-use Rattle.iofd_words.specs.Answers.{Answers}
+use Rattle.iofd_steps.specs.After.{changed}
+use Rattle.iofd_steps.specs.Answers.{Answers}
 use Rattle.iofd_words.specs.Files.{user_of}
 use Rattle.iofd_words.specs.Settings.{Settings}
 use Rattle.iofd_words.specs.Span.{meets}
@@ -79,7 +79,7 @@ pin_all-requires-clause-may g c =
     may_pin_met c.requires.at known.world c.args.state.now c.args.file c.args.id c.args.request known.tidy known.shows
     known.none c.in-Some-attached_to.ioas (sym c.in-Some-attached_to.is ∙ c.attached_to.ensures)
     c.in-Some-asked_pin.pin c.in-Some-asked_pin.ensures.row c.in-Some-asked_pin.ensures.space
-    c.in-Some-areas_of.areas.now.areas c.in-Some-areas_of.ensures.1 c.len.ensures.kept.apart c.meeting-met.result
+    c.in-Some-areas_of.areas.now.areas c.in-Some-areas_of.ensures.1 c.facts.ensures.kept.apart c.meeting-met.result
     c.meeting-met.ensures c.in-Some.field-0 (sym c.user_of.ensures.value ∙ c.in-Some.is) c.in-Some.ensures.known
 
 pub pin_all-requires-clause-few : goal.pin_all-requires-clause-few
@@ -87,9 +87,8 @@ pin_all-requires-clause-few g c =
     let span = c.in-Some-asked_pin.pin.span in
     let fewer = length-filter-le (λ (a : Area). meets a.span span) c.in-Some-areas_of.areas.now.areas in
     let is = ap (λ (l : List Area). length l) c.meeting-met.ensures in
-    let count = c.len.ensures.value in
-    let fits = c.len.type_inv in
-    omega (arith, fewer, is, count, fits)
+    let fits = c.facts.ensures.few in
+    omega (arith, fewer, is, fits)
 
 pub returns-in_err-pin_all-clause-memory : goal.returns-in_err-pin_all-clause-memory
 returns-in_err-pin_all-clause-memory g c =
@@ -98,7 +97,7 @@ returns-in_err-pin_all-clause-memory g c =
     (unheld c.requires.at known.world c.args.state.now c.args.file c.args.id c.args.request known.tidy known.shows
     known.none c.in-Some-attached_to.ioas (sym c.in-Some-attached_to.is ∙ c.attached_to.ensures)
     c.in-Some-asked_pin.pin c.in-Some-asked_pin.ensures.row c.in-Some-asked_pin.ensures.space
-    c.in-Some-areas_of.areas.now.areas c.in-Some-areas_of.ensures.1 c.len.ensures.kept.apart c.meeting-met.result
+    c.in-Some-areas_of.areas.now.areas c.in-Some-areas_of.ensures.1 c.facts.ensures.kept.apart c.meeting-met.result
     c.meeting-met.ensures c.in_err-pin_all.ensures.memory)
 
 pub returns-in-Err-clause-memory : goal.returns-in-Err-clause-memory
@@ -128,7 +127,7 @@ pin-requires-clause-whole g c =
     whole_pages c.requires.at known.world c.args.state.now c.args.file c.args.id c.args.request known.tidy known.shows
     known.none c.in-Some-attached_to.ioas (sym c.in-Some-attached_to.is ∙ c.attached_to.ensures)
     c.in-Some-asked_pin.pin c.in-Some-asked_pin.ensures.row c.in-Some-asked_pin.ensures.space
-    c.in-Some-areas_of.areas.now.areas c.in-Some-areas_of.ensures.1 c.len.ensures.kept.apart
+    c.in-Some-areas_of.areas.now.areas c.in-Some-areas_of.ensures.1 c.facts.ensures.kept.apart
 
 below_most : (n : ℕ) → leb 65535 n ≡ false → n < 65535
 below_most n few = search (few, arith, nat_tests)
@@ -139,7 +138,7 @@ pin-requires-clause-few g c =
     below_most _ (has_room c.requires.at known.world c.args.state.now c.args.file c.args.id c.args.request known.tidy
     known.shows known.none c.in-Some-attached_to.ioas (sym c.in-Some-attached_to.is ∙ c.attached_to.ensures)
     c.in-Some-asked_pin.pin c.in-Some-asked_pin.ensures.row c.in-Some-asked_pin.ensures.space
-    c.in-Some-areas_of.areas.now.areas c.in-Some-areas_of.ensures.1 c.len.ensures.kept.apart)
+    c.in-Some-areas_of.areas.now.areas c.in-Some-areas_of.ensures.1 c.facts.ensures.kept.apart)
 
 pub unpin_all-requires-clause-met : goal.unpin_all-requires-clause-met
 unpin_all-requires-clause-met g c =
@@ -159,7 +158,7 @@ unpin_all-requires-clause-may g c =
     c.in_ok-pin_all.ensures.ok
     (may_pin_met c.requires.at known.world s c.args.file c.args.id c.args.request known.tidy known.shows known.none
     c.in-Some-attached_to.ioas (sym c.in-Some-attached_to.is ∙ c.attached_to.ensures) pin asked.row asked.space
-    c.in-Some-areas_of.areas.now.areas c.in-Some-areas_of.ensures.1 c.len.ensures.kept.apart c.meeting-met.result
+    c.in-Some-areas_of.areas.now.areas c.in-Some-areas_of.ensures.1 c.facts.ensures.kept.apart c.meeting-met.result
     c.meeting-met.ensures c.in-Some.field-0 (sym c.user_of.ensures.value ∙ c.in-Some.is) c.in-Some.ensures.known))
 
 pub returns-in-Err-clause-err : goal.returns-in-Err-clause-err
@@ -185,6 +184,6 @@ returns-in-Ok-clause-ok g c = λ at w tidy shows none. (
   pinned_shown_met at w c.args.state.now c.args.file c.args.id c.args.request tidy shows none
       c.in-Some-attached_to.ioas (sym c.in-Some-attached_to.is ∙ c.attached_to.ensures) c.in-Some-asked_pin.pin
       c.in-Some-asked_pin.ensures.row c.in-Some-asked_pin.ensures.space c.in-Some-areas_of.areas.now.areas
-      c.in-Some-areas_of.ensures.1 c.len.ensures.kept.apart c.meeting-met.result c.meeting-met.ensures
+      c.in-Some-areas_of.ensures.1 c.facts.ensures.kept.apart c.meeting-met.result c.meeting-met.ensures
       c.pin.new.self c.pin_all.new.memory c.pin_all.new.pool c.in-Ok.ensures.more c.in_ok-pin_all.ensures.ok,
 )

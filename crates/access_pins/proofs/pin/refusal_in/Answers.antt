@@ -5,7 +5,7 @@ use Rattle.access_pins.proofs.PinPlace.{space_there, whole_span}
 use Rattle.iofd_rows.proofs.Bools.{clash}
 use Rattle.iofd_words.specs.Accesses.{has_gap, lacks_accessed_page, meets_leaving, meets_without_right, pinned_span}
 use Rattle.iofd_words.specs.Bounds.{Bounds}
-use Rattle.iofd_words.specs.Checks.{passes_limit_accessed, pin_checks_in}
+use Rattle.iofd_refusals.specs.Checks.{passes_limit_accessed, pin_checks_in}
 use Rattle.iofd_words.specs.FirstTrue.{first_true}
 use Rattle.iofd_words.specs.Pages.{is_above_sum, is_whole}
 use Rattle.iofd_words.specs.Span.{is_whole_pages}

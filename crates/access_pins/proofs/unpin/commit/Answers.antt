@@ -11,8 +11,8 @@ use Rattle.iofd_rows.proofs.Bools.{clash}
 use Rattle.iofd_rows.proofs.ListTests.{all_pass}
 use Rattle.iofd_runs.proofs.AccessesPassed.{access_unpin_passed}
 use Rattle.iofd_words.specs.Accesses.{pin_of}
-use Rattle.iofd_words.specs.After.{changed}
-use Rattle.iofd_words.specs.Answers.{Answers}
+use Rattle.iofd_steps.specs.After.{changed}
+use Rattle.iofd_steps.specs.Answers.{Answers}
 use Rattle.iofd_words.specs.Pins.{is_equal}
 use Rattle.iofd_words.specs.Span.{meets}
 use Rattle.iofd_words.specs.View.{view}
@@ -67,7 +67,7 @@ unpin_all-requires-clause-may g c =
     (ap (λ (l : List Area). meeting pin.span l) areas ∙ sym c.meeting-areas.ensures)
     (may_unpin c.requires.at w s c.args.file c.args.id c.args.request known.tidy known.shows known.none pin asked.row
     (pin_attached c.requires.at w s known.tidy known.shows c.args.file c.args.id c.in-Some.ioas ioas pin c.args.request
-    asked.row asked.space) (subst AreApart (sym areas) c.len.ensures.kept.apart))
+    asked.row asked.space) (subst AreApart (sym areas) c.facts.ensures.kept.apart))
 
 pub unpin-requires : goal.unpin-requires
 unpin-requires g c =
@@ -100,7 +100,7 @@ returns g c = λ at w tidy shows none.
       tt,
       unpinned_shown at w s c.args.file c.args.id c.args.request tidy shows none pin asked.row
           (pin_attached at w s tidy shows c.args.file c.args.id c.in-Some.ioas ioas pin c.args.request asked.row
-          asked.space) (subst AreApart (sym areas) c.len.ensures.kept.apart)
+          asked.space) (subst AreApart (sym areas) c.facts.ensures.kept.apart)
           c.unpin.new.self c.unpin_all.new.memory c.unpin_all.new.pool c.unpin.ensures.less
           (subst (λ (l : List Area). AreReleased (runs_in pin.span l) s.memory c.unpin_all.new.memory s.pool
           c.unpin_all.new.pool) (c.meeting-areas.ensures ∙ ap (λ (l : List Area). meeting pin.span l) (sym areas))

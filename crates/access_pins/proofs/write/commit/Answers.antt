@@ -3,8 +3,8 @@ use Rattle.access_pins.proofs.HeldFrames.{frame_alike, frame_in_pool, frame_name
 use Rattle.frame_memory.specs.Pool.{written}
 use Rattle.iofd_runs.proofs.AccessesPassed.{access_write_passed}
 use Rattle.iofd_words.specs.Accesses.{accessed_frame}
-use Rattle.iofd_words.specs.After.{changed}
-use Rattle.iofd_words.specs.Answers.{Answers}
+use Rattle.iofd_steps.specs.After.{changed}
+use Rattle.iofd_steps.specs.Answers.{Answers}
 use Rattle.iofd_words.specs.View.{view}
 use Rattle.server_state.specs.Leads.{leads_of}
 use Rattle.server_state.specs.Seen.{seen}

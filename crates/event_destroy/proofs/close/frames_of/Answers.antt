@@ -25,9 +25,8 @@ overflow_add-count g c =
     (c.loop-hwpt.invariant w.table_frames (leads_of w) stand) in
     let few = first_few c.requires.at w c.args.state.now c.requires.tidy c.requires.shows c.args.file
     (c.loop-hwpt.hwpt-index + 1) in
-    let size = c.len.ensures.value in
-    let most = c.len.ensures.few in
-    omega (arith, sum, few, size, most)
+    let most = c.facts.ensures.few in
+    omega (arith, sum, few, most)
 
 pub loop-hwpt-preserved : goal.loop-hwpt-preserved
 loop-hwpt-preserved g c =

@@ -6,7 +6,7 @@ use Rattle.iofd_words.specs.Frames.{bytes_at}
 use Rattle.iofd_words.specs.Policy.{is_pass_at, outcomes}
 use Rattle.iofd_words.specs.View.{view}
 use Rattle.iofd_words.specs.declared.fault.AccessKind.TheVariants.{Read}
-use Rattle.iofd_words.specs.Look.{lawful_answers, query_checks}
+use Rattle.iofd_steps.specs.Look.{lawful_answers, query_checks}
 use Rattle.iofd_words.specs.declared.query.Answer.TheVariants as answer
 use Rattle.iofd_words.specs.declared.query.Query.TheVariants as query
 use Rattle.server_state.specs.Choice.{IsLooked}

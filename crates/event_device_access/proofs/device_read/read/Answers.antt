@@ -2,7 +2,7 @@ use Rattle.std.proofs.Common.{◌≡◌, None, [], sym, ◌∙◌, ap, subst}
 use Rattle.std.specs.List.{list_any}
 use Rattle.iofd_words.specs.Policy.{Passes, fault_of, is_pass_at, outcomes}
 use Rattle.iofd_words.specs.declared.fault.AccessKind.TheVariants.{Read}
-use Rattle.iofd_words.specs.Look.{lawful_answers}
+use Rattle.iofd_steps.specs.Look.{lawful_answers}
 use Rattle.iofd_words.specs.declared.query.Answer.TheVariants as answer
 use Rattle.iofd_words.specs.declared.query.Query.TheVariants as query
 use Rattle.server_state.specs.Choice.{IsLooked}

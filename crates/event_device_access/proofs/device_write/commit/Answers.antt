@@ -1,7 +1,7 @@
 use Rattle.std.proofs.Common.{◌≡◌, ◌/◌, ◌%◌, List, ◌∷◌, length, ◌∙◌, ap, sym, subst, arith}
 use Rattle.iofd_runs.proofs.NotRefused.{write_passed}
-use Rattle.iofd_words.specs.After.{changed}
-use Rattle.iofd_words.specs.Answers.{Answers}
+use Rattle.iofd_steps.specs.After.{changed}
+use Rattle.iofd_steps.specs.Answers.{Answers}
 use Rattle.iofd_words.specs.Attachments.{attachment_of}
 use Rattle.iofd_words.specs.Dirty.{marked_by}
 use Rattle.iofd_words.specs.Policy.{Passes, fault_of, outcomes}

@@ -1,6 +1,6 @@
 use Rattle.std.proofs.Common.{true, false}
-use Rattle.iofd_words.specs.After.{changed}
-use Rattle.iofd_words.specs.Answers.{Answers}
+use Rattle.iofd_steps.specs.After.{changed}
+use Rattle.iofd_steps.specs.Answers.{Answers}
 use Rattle.iofd_words.specs.Dirty.{without_tracked, with_tracking}
 use Rattle.server_state.proofs.DirtyMoves.{dirty_started, dirty_stopped}
 use Rattle.event_dirty.proofs.Kept.{shows_marked}

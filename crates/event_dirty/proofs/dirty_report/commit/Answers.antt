@@ -1,8 +1,8 @@
 use Rattle.std.proofs.Common.{◌≡◌, ◌&&◌, not, ◌∙◌, ap, Bool}
 use Rattle.dirty_bitmap.specs.Tracking.{is_dirty, is_table}
 use Rattle.iofd_runs.proofs.NotRefused.{dirty_passed}
-use Rattle.iofd_words.specs.After.{changed}
-use Rattle.iofd_words.specs.Answers.{Answers}
+use Rattle.iofd_steps.specs.After.{changed}
+use Rattle.iofd_steps.specs.Answers.{Answers}
 use Rattle.iofd_words.specs.Bounds.{Bounds}
 use Rattle.iofd_words.specs.Dirty.{reported_span, without_marks}
 use Rattle.iofd_words.specs.DirtyWords.{dirty_words}

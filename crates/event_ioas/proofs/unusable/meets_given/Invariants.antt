@@ -1,7 +1,7 @@
 use Rattle.std.proofs.Common.{◌≡◌, true, length}
 use Rattle.std.specs.List.{list_any}
 use Rattle.iofd_words.specs.Allowed.{are_ranges}
-use Rattle.iofd_words.specs.Checks.{unusable_in}
+use Rattle.iofd_refusals.specs.Checks.{unusable_in}
 use Rattle.iofd_words.specs.Ranges.{meets_some}
 use Rattle.server_state.specs.Seen.{seen}
 use Rattle.event_ioas.proofs.unusable.meets_given.Given as goal

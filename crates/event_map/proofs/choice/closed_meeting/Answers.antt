@@ -1,7 +1,7 @@
 use Rattle.std.proofs.Common.{◌≡◌, ℕ, ◌<◌, ◌≤◌, eqb, false, ap, arith}
 use Rattle.std.proofs.lemmas.Bool.Decides.{nat_tests}
 use Rattle.iofd_words.specs.Bounds.{Bounds}
-use Rattle.iofd_words.specs.Checks.{unusable_in}
+use Rattle.iofd_refusals.specs.Checks.{unusable_in}
 use Rattle.iofd_words.specs.Span.{span_from}
 use Rattle.event_map.proofs.Chosen.{open_or_gap, taken_in_the_way, unusable_one}
 use Rattle.server_state.specs.Seen.{seen}

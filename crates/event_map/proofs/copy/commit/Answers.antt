@@ -2,8 +2,8 @@ use Rattle.std.proofs.Common.{◌≡◌, ◌-◌, ℕ, true, false, List, Some, 
 use Rattle.std.proofs.Common.{subst, arith, vec_capacity, vec_len}
 use Rattle.iofd_runs.proofs.CopySource.{copy_source}
 use Rattle.iofd_runs.proofs.NotRefused.{copy_place}
-use Rattle.iofd_words.specs.After.{mapped_area}
-use Rattle.iofd_words.specs.Answers.{Answers, IsMappedAt}
+use Rattle.iofd_steps.specs.After.{mapped_area}
+use Rattle.iofd_steps.specs.Answers.{Answers, IsMappedAt}
 use Rattle.iofd_words.specs.Copies.{placed_as, source_in}
 use Rattle.iofd_words.specs.Files.{user_of}
 use Rattle.iofd_words.specs.Rights.{is_fixed}
@@ -204,7 +204,7 @@ returns-clause-ok g c = λ at via w tidy shows none may.
     c.has_hwpt-pinned.result none at_place over
     c.has_hwpt-pinned.ensures c.in_ok-share.ensures.share c.in_ok-share.ensures.settles
     (enough_there c.requires.granted.at s file request c.requires.granted.granted span place number)
-    c.insert.new.table state.pool taken mapped c.len.ensures.bytes
+    c.insert.new.table state.pool taken mapped c.facts.ensures.bytes
     (λ orderly. area_taken w s file (placed_as request) tidy.tabled shows rows
     number
     (record { 0 = span.first }) at_place (λ space free.

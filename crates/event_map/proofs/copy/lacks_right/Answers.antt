@@ -1,5 +1,5 @@
 use Rattle.std.proofs.Common.{◌&&◌, not, sym, ◌∙◌, ap}
-use Rattle.iofd_words.specs.Checks.{is_source_writable}
+use Rattle.iofd_refusals.specs.Checks.{is_source_writable}
 use Rattle.event_map.proofs.CopyAsks.{writable_is}
 use Rattle.server_state.specs.Seen.{seen}
 use Rattle.event_map.proofs.copy.lacks_right.Goals as goal

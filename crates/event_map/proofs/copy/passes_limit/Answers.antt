@@ -1,5 +1,5 @@
 use Rattle.std.proofs.Common.{sym, ◌∙◌, ap}
-use Rattle.iofd_words.specs.Checks.{passes_limit}
+use Rattle.iofd_refusals.specs.Checks.{passes_limit}
 use Rattle.iofd_words.specs.Files.{user_of}
 use Rattle.event_map.proofs.CopyAsks.{limit_told}
 use Rattle.server_state.specs.Seen.{seen}

@@ -1,7 +1,7 @@
 use Rattle.std.proofs.Common.{◌≡◌, ◌≢◌, ℕ, false, eqb, Option, Some, None, is_none, sym, ◌∙◌, ap, arith}
 use Rattle.std.proofs.lemmas.Bool.Decides.{nat_tests}
 use Rattle.iofd_rows.proofs.Bools.{and_true}
-use Rattle.iofd_words.specs.Checks.{source_of}
+use Rattle.iofd_refusals.specs.Checks.{source_of}
 use Rattle.iofd_words.specs.Copies.{source_in}
 use Rattle.iofd_words.specs.Pages.{is_whole}
 use Rattle.iofd_words.specs.declared.rows.Area.{Area}

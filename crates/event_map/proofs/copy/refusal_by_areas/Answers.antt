@@ -1,5 +1,5 @@
 use Rattle.std.proofs.Common.{◌≡◌, Bool, false, ◌&&◌, not, Option, Some, None, List, ◌∷◌, refl, sym, ◌∙◌, subst}
-use Rattle.iofd_words.specs.Checks.{is_source_writable}
+use Rattle.iofd_refusals.specs.Checks.{is_source_writable}
 use Rattle.iofd_words.specs.Copies.{placed_as}
 use Rattle.iofd_words.specs.FirstTrue.{first_true}
 use Rattle.iofd_words.specs.Rights.{is_writeable}

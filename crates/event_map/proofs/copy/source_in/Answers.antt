@@ -16,19 +16,21 @@ told areas request span o apart is found =
     ∙ sym (source_found (span_from request.src_iova.0 request.length) 0 areas apart)
 
 pub returns-in_default-exact : goal.returns-in_default-exact
-returns-in_default-exact g c = told c.args.areas.now.areas c.args.request c.in-Some.span None c.len.ensures.kept.apart
+returns-in_default-exact g c = told c.args.areas.now.areas c.args.request c.in-Some.span None c.facts.ensures.kept.apart
     c.in-Some.ensures.value c.in_default-exact.ensures
 
 pub returns-then-is_live : goal.returns-then-is_live
 returns-then-is_live g c =
     let live = sym c.is_live.ensures ∙ c.if-is_live.true in
     ap (λ (b : Bool). cond b (Some c.in-Some-exact.area.now) None) (sym live)
-    ∙ told c.args.areas.now.areas c.args.request c.in-Some.span (Some c.in-Some-exact.area.now) c.len.ensures.kept.apart
+    ∙ told c.args.areas.now.areas c.args.request c.in-Some.span (Some c.in-Some-exact.area.now)
+    c.facts.ensures.kept.apart
     c.in-Some.ensures.value c.in-Some-exact.ensures
 
 pub returns-else-is_live : goal.returns-else-is_live
 returns-else-is_live g c =
     let gone = sym c.is_live.ensures ∙ c.if-is_live.false in
     ap (λ (b : Bool). cond b (Some c.in-Some-exact.area.now) None) (sym gone)
-    ∙ told c.args.areas.now.areas c.args.request c.in-Some.span (Some c.in-Some-exact.area.now) c.len.ensures.kept.apart
+    ∙ told c.args.areas.now.areas c.args.request c.in-Some.span (Some c.in-Some-exact.area.now)
+    c.facts.ensures.kept.apart
     c.in-Some.ensures.value c.in-Some-exact.ensures

@@ -1,16 +1,15 @@
 use Rattle.std.proofs.Common.{◌≡◌, ◌-◌, ℕ, true, false, None, List, [], ap, subst, sym, ◌∙◌}
 use Rattle.std.proofs.Common.{arith, vec_capacity, vec_len}
-use Rattle.iofd_words.specs.Checks.{has_pages}
-use Rattle.iofd_words.specs.Frames.{frame_at}
+use Rattle.iofd_words.specs.Frames.{frame_at, has_pages}
 use Rattle.iofd_words.specs.Pages.{page_of}
 use Rattle.iofd_words.specs.declared.rows.MemoryObject.{MemoryObject}
 use Rattle.user_memory.specs.Memory.{has_room}
-use Rattle.iofd_words.specs.Answers.{Answers, IsMappedAt}
+use Rattle.iofd_steps.specs.Answers.{Answers, IsMappedAt}
 use Rattle.iofd_words.specs.Rights.{is_fixed}
 use Rattle.iofd_words.specs.declared.reply.Reply.TheVariants as reply
 use Rattle.server_state.specs.Choice.{IsLeastMapped}
 use Rattle.iofd_words.specs.Files.{user_of}
-use Rattle.iofd_words.specs.After.{mapped_area}
+use Rattle.iofd_steps.specs.After.{mapped_area}
 use Rattle.user_memory_rows.proofs.FramesFollow.{is_backed}
 use Rattle.event_map.proofs.MapGranted.{can_map, enough_there}
 use Rattle.event_map.proofs.MayMap.{no_table_over}
@@ -193,7 +192,7 @@ returns-clause-ok g c = λ via w tidy shows none may.
     c.has_hwpt-pinned.ensures (rw c.memory_object-object.ensures at c.in_ok-add.ensures.object)
     c.in_ok-add.ensures.settles
     (enough_there c.args.at s file request user c.requires.granted is_user span place)
-    state.pool taken mapped c.len.ensures.bytes
+    state.pool taken mapped c.facts.ensures.bytes
     (λ orderly. area_taken w s file request tidy.tabled shows (map_place (view w) file request none) c.args.at
     (record { 0 = span.first }) at_place (λ space free.
     area_comes s.objects c.reserve-2.new.table c.insert.new.table file request.ioas new_area orderly space free

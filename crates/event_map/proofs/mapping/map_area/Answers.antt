@@ -1,4 +1,3 @@
-use Rattle.std.proofs.Common.{◌≤◌, arith}
 use Rattle.event_map.proofs.AreaInTables.{area_mapped, as_long, none_mapped}
 use Rattle.event_map.specs.AreaMapped.{area_leads}
 use Rattle.event_map.proofs.mapping.map_area.Goals as goal
@@ -7,7 +6,7 @@ pub returns-then-translated-clause-mapped : goal.returns-then-translated-clause-
 returns-then-translated-clause-mapped g c = λ frames leads all.
     let can = c.requires.can c.if-translated.true in
     let area = c.args.area.now in
-    let ordered : area.span.first ≤ area.span.last = omega (arith, c.last.ensures.value, c.last.ensures.ordered) in
+    let ordered = c.facts.ensures.ordered in
     let long = as_long c.args.state.now.memory area c.frames.result.now ordered can.whole can.object can.found can.size
     (c.frames.ensures.count can.pins) in
     let told = area_mapped c.args.state.now.memory area c.frames.result.now can.live ordered can.whole

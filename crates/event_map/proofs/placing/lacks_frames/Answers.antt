@@ -1,6 +1,6 @@
 use Rattle.std.proofs.Common.{◌≡◌, ℕ, false, ltb, Some, None, sym, ◌∙◌, ap}
 use Rattle.iofd_runs.proofs.Runs.{tests_false}
-use Rattle.iofd_words.specs.Checks.{mapped_start, tables_to_map}
+use Rattle.iofd_refusals.specs.Checks.{mapped_start, tables_to_map}
 use Rattle.iofd_words.specs.Objects.{has_hwpt}
 use Rattle.event_map.proofs.StartTold.{lacks_none, lacks_nowhere, lacks_there, place_usable, place_whole, start_told}
 use Rattle.event_map.specs.Place.{IsPlace, place_checks}

@@ -5,8 +5,8 @@ use Rattle.std.specs.Option.{IsSome, option_map}
 use Rattle.frame_memory.specs.UserPages.{user_page}
 use Rattle.iofd_rows.proofs.Each.{in_found}
 use Rattle.iofd_runs.proofs.NotRefused.{user_map_passed}
-use Rattle.iofd_words.specs.After.{changed}
-use Rattle.iofd_words.specs.Answers.{Answers}
+use Rattle.iofd_steps.specs.After.{changed}
+use Rattle.iofd_steps.specs.Answers.{Answers}
 use Rattle.iofd_words.specs.Frames.{is_free, without_frame}
 use Rattle.iofd_words.specs.Pages.{page_of}
 use Rattle.iofd_words.specs.View.{view}

@@ -2,8 +2,8 @@ use Rattle.std.proofs.Common.{◌≡◌, ℕ, ◌<◌, false, Option, Some, None
 use Rattle.std.specs.Option.{IfSome, IsSome}
 use Rattle.frame_memory.specs.UserPages.{HasOneMore, user_page}
 use Rattle.iofd_runs.proofs.NotRefused.{user_unmap_passed}
-use Rattle.iofd_words.specs.After.{changed}
-use Rattle.iofd_words.specs.Answers.{Answers}
+use Rattle.iofd_steps.specs.After.{changed}
+use Rattle.iofd_steps.specs.Answers.{Answers}
 use Rattle.iofd_words.specs.Frames.{frame_at, without_page}
 use Rattle.iofd_words.specs.Pages.{page_of}
 use Rattle.iofd_words.specs.View.{view}

@@ -1,8 +1,8 @@
 use Rattle.std.proofs.Common.{◌≡◌, ◌%◌, true, false, Option, Some, None, is_none, ◌∷◌, length, ◌∙◌, ap, sym, arith}
 use Rattle.frame_memory.specs.Pool.{written}
 use Rattle.iofd_runs.proofs.NotRefused.{user_write_passed}
-use Rattle.iofd_words.specs.After.{changed}
-use Rattle.iofd_words.specs.Answers.{Answers}
+use Rattle.iofd_steps.specs.After.{changed}
+use Rattle.iofd_steps.specs.Answers.{Answers}
 use Rattle.iofd_words.specs.Frames.{frame_at}
 use Rattle.iofd_words.specs.Pages.{page_of}
 use Rattle.iofd_words.specs.View.{view}

@@ -43,7 +43,7 @@ returns-in-Some-there-clause-ok g c =
     c.in-Some-there.hwpt
     c.in-Some.bound.now c.in-Some-width_of.width via tidy shows none
     (sym c.in-Some.ensures) (sym c.in-Some-width_of.ensures) (sym c.in-Some-there.ensures)
-    c.pool.ensures.within c.one_more.ensures.rows c.one_more.ensures.others
+    c.facts.ensures c.one_more.ensures.rows c.one_more.ensures.others
     (c.insert.ensures ∙ ap (with_attachment (record {
       device = c.args.device;
       file = c.in-Some.bound.now.file;
@@ -79,6 +79,6 @@ returns-clause-ok g c =
     c.args.pt_id c.in_ok-made.made
     c.in-Some.bound.now c.in-Some-width_of.width via c.make.new.taken.items tidy shows none
     (sym c.in-Some.ensures) (sym c.in-Some-width_of.ensures) (sym c.in_default-there.ensures)
-    (c.in_ok-made.ensures.ok at w tidy shows_room roomy) c.pool.ensures.within c.one_more-2.ensures.rows
+    (c.in_ok-made.ensures.ok at w tidy shows_room roomy) c.facts.ensures c.one_more-2.ensures.rows
     c.one_more-2.ensures.others
     c.insert-2.ensures

@@ -1,5 +1,5 @@
 use Rattle.std.proofs.Common.{Option, Some, sym, ap, ◌∙◌}
-use Rattle.iofd_words.specs.Checks.{target_checks}
+use Rattle.iofd_refusals.specs.Checks.{target_checks}
 use Rattle.iofd_words.specs.FirstTrue.{first_true}
 use Rattle.iofd_words.specs.declared.rows.ObjectKind.{ObjectKind}
 use Rattle.server_state.specs.Seen.{seen}

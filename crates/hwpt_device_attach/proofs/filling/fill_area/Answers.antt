@@ -31,7 +31,7 @@ map_in-requires-clause-span g c =
     let can = c.requires.mappable c.args.area.now (inl refl) (sym c.is_live.ensures ∙ c.if-is_live.true) in
     subst (λ (found : Option Hwpt). IfSome found (λ h. IsOfPages h.table.width c.args.area.now.span))
     (sym c.requires.found) (of_pages c.requires.hwpt.table.width c.args.area.now c.requires.apart.1
-    (subst (λ (last : ℕ). last < 2 ^ 64) c.last.ensures.value c.last.type_inv) can.pages can.starts can.wide)
+    c.facts.ensures.end can.pages can.starts can.wide)
 
 pub map_in-requires-clause-pages : goal.map_in-requires-clause-pages
 map_in-requires-clause-pages g c =

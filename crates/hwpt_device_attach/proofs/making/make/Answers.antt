@@ -177,11 +177,11 @@ returns-clause-ok g c =
     fresh after pool more) in (
       fresh,
       are_chosen at w s tidy shows c.args.file c.args.ioas id c.args.width c.args.automatic roomy fresh after pool more
-          c.add.new.page_tables c.add.new.pool taken some.0 tables_now filled c.len.ensures.bytes,
+          c.add.new.page_tables c.add.new.pool taken some.0 tables_now filled c.facts.ensures.bytes,
       as_many_taken at w s tidy shows c.args.file c.args.ioas id c.args.width c.args.automatic roomy fresh after pool
-          more c.add.new.page_tables c.add.new.pool taken some.0 tables_now filled c.len.ensures.bytes,
+          more c.add.new.page_tables c.add.new.pool taken some.0 tables_now filled c.facts.ensures.bytes,
       made_shown at w s tidy shows c.args.file c.args.ioas id c.args.width c.args.automatic roomy fresh after pool more
-          c.add.new.page_tables c.add.new.pool taken some.0 tables_now filled c.len.ensures.bytes table objects,
+          c.add.new.page_tables c.add.new.pool taken some.0 tables_now filled c.facts.ensures.bytes table objects,
     )
 
 pub returns-in_err-reserve-clause-attachments : goal.returns-in_err-reserve-clause-attachments

@@ -1,5 +1,5 @@
 use Rattle.std.proofs.Common.{[], length, sym, ◌∙◌, ap}
-use Rattle.iofd_words.specs.Checks.{passes_limit}
+use Rattle.iofd_refusals.specs.Checks.{passes_limit}
 use Rattle.iofd_words.specs.Files.{user_of}
 use Rattle.user_memory_rows.specs.Moves.{numbers_of}
 use Rattle.server_state.proofs.TableRows.{areas_of_other}

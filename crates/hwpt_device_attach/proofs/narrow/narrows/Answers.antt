@@ -1,7 +1,7 @@
 use Rattle.std.proofs.Common.{◌≡◌, Option, Some, ◌∷◌, sym, ap, ◌∙◌}
 use Rattle.std.specs.Option.{option_copied}
 use Rattle.hwpt_device_attach.proofs.Narrowed.{either_first, either_then, known_narrows}
-use Rattle.iofd_words.specs.Checks.{narrows}
+use Rattle.iofd_refusals.specs.Checks.{narrows}
 use Rattle.iofd_words.specs.Files.{device_of}
 use Rattle.iofd_words.specs.Settings.{DeviceSettings}
 use Rattle.iofd_words.specs.Usable.{beyond, reserved_by}

@@ -12,7 +12,7 @@ loop-area-init g c =
     let many = ap (λ (l : List Area). length l) all in
     let len = c.in_ok-numbers.ensures.len in
     let capacity = c.in_ok-numbers.ensures.capacity in
-    let count = c.len.ensures.value in
+    let count = c.len.ensures in
     record {
       same = ap (λ (numbers : List ℕ). numbers ++ map number left) c.in_ok-numbers.ensures.items ∙ ap (map number) all;
       room = omega (arith, many, len, capacity, count);

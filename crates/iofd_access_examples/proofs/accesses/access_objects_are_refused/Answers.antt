@@ -1,8 +1,8 @@
 use Rattle.std.proofs.Common.{refl}
-use Rattle.iofd_words.specs.Checks.{access_create_checks, access_attach_checks, access_detach_checks}
-use Rattle.iofd_words.specs.Checks.{allow_iovas_checks, attach_checks, close_checks, copy_checks}
-use Rattle.iofd_words.specs.Checks.{destroy_checks, hwpt_alloc_checks, map_checks, unbind_checks}
-use Rattle.iofd_words.specs.Checks.{unmap_checks}
+use Rattle.iofd_refusals.specs.Checks.{access_create_checks, access_attach_checks, access_detach_checks}
+use Rattle.iofd_refusals.specs.Checks.{allow_iovas_checks, attach_checks, close_checks, copy_checks}
+use Rattle.iofd_refusals.specs.Checks.{destroy_checks, hwpt_alloc_checks, map_checks, unbind_checks}
+use Rattle.iofd_refusals.specs.Checks.{unmap_checks}
 use Rattle.iofd_words.specs.Levels.{number_at}
 use Rattle.iofd_access_examples.proofs.accesses.access_objects_are_refused.Goals as goal
 

@@ -1,10 +1,10 @@
 use Rattle.std.proofs.Common.{refl}
-use Rattle.iofd_words.specs.After.{changed, settle, without_areas}
-use Rattle.iofd_words.specs.Answers.{Answers}
-use Rattle.iofd_words.specs.Checks.{access_create_checks, access_attach_checks, access_detach_checks}
-use Rattle.iofd_words.specs.Checks.{close_checks, destroy_checks, unmap_checks}
+use Rattle.iofd_steps.specs.After.{changed, settle, without_areas}
+use Rattle.iofd_steps.specs.Answers.{Answers}
+use Rattle.iofd_refusals.specs.Checks.{access_create_checks, access_attach_checks, access_detach_checks}
+use Rattle.iofd_refusals.specs.Checks.{close_checks, destroy_checks, unmap_checks}
 use Rattle.iofd_words.specs.Levels.{number_at}
-use Rattle.iofd_words.specs.Run.{Lawful, after}
+use Rattle.iofd_steps.specs.Run.{Lawful, after}
 use Rattle.iofd_words.specs.Tables.{with_tables}
 use Rattle.iofd_access_examples.proofs.Never.{never, same_cause}
 use Rattle.iofd_access_examples.proofs.accesses.access_records_are_lawful.Goals as goal

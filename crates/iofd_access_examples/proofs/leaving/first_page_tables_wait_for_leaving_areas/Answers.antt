@@ -1,5 +1,5 @@
 use Rattle.std.proofs.Common.{refl}
-use Rattle.iofd_words.specs.Checks.{attach_checks, destroy_checks, hwpt_alloc_checks}
+use Rattle.iofd_refusals.specs.Checks.{attach_checks, destroy_checks, hwpt_alloc_checks}
 use Rattle.iofd_words.specs.Levels.{number_at}
 use Rattle.iofd_access_examples.proofs.leaving.first_page_tables_wait_for_leaving_areas.Goals as goal
 

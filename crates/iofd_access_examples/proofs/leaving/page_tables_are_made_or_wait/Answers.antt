@@ -1,9 +1,9 @@
 use Rattle.std.proofs.Common.{refl}
-use Rattle.iofd_words.specs.After.{changed, settle, without_areas, attached, joined}
-use Rattle.iofd_words.specs.Answers.{Answers}
-use Rattle.iofd_words.specs.Checks.{attach_checks, hwpt_alloc_checks}
+use Rattle.iofd_steps.specs.After.{changed, settle, without_areas, attached, joined}
+use Rattle.iofd_steps.specs.Answers.{Answers}
+use Rattle.iofd_refusals.specs.Checks.{attach_checks, hwpt_alloc_checks}
 use Rattle.iofd_words.specs.Levels.{number_at}
-use Rattle.iofd_words.specs.Run.{Lawful, after}
+use Rattle.iofd_steps.specs.Run.{Lawful, after}
 use Rattle.iofd_words.specs.Tables.{with_tables}
 use Rattle.iofd_access_examples.proofs.leaving.page_tables_are_made_or_wait.Goals as goal
 

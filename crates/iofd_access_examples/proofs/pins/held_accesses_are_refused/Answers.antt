@@ -1,6 +1,6 @@
 use Rattle.std.proofs.Common.{refl}
-use Rattle.iofd_words.specs.Checks.{access_attach_checks, access_detach_checks, access_unpin_checks}
-use Rattle.iofd_words.specs.Checks.{access_write_checks, map_checks}
+use Rattle.iofd_refusals.specs.Checks.{access_attach_checks, access_detach_checks, access_unpin_checks}
+use Rattle.iofd_refusals.specs.Checks.{access_write_checks, map_checks}
 use Rattle.iofd_access_examples.proofs.pins.held_accesses_are_refused.Goals as goal
 
 pub returns-clause-all_writes : goal.returns-clause-all_writes

@@ -1,11 +1,11 @@
 use Rattle.std.proofs.Common.{refl}
-use Rattle.iofd_words.specs.After.{changed, settle, without_areas}
-use Rattle.iofd_words.specs.Checks.{access_attach_checks, access_create_checks, access_detach_checks}
-use Rattle.iofd_words.specs.Checks.{access_pin_checks, access_unpin_checks, access_write_checks, bind_checks}
-use Rattle.iofd_words.specs.Checks.{copy_checks, destroy_checks, hwpt_alloc_checks, ioas_alloc_checks, map_checks}
-use Rattle.iofd_words.specs.Checks.{unmap_checks, user_map_checks, user_unmap_checks, user_write_checks}
+use Rattle.iofd_steps.specs.After.{changed, settle, without_areas}
+use Rattle.iofd_refusals.specs.Checks.{access_attach_checks, access_create_checks, access_detach_checks}
+use Rattle.iofd_refusals.specs.Checks.{access_pin_checks, access_unpin_checks, access_write_checks, bind_checks}
+use Rattle.iofd_refusals.specs.Checks.{copy_checks, destroy_checks, hwpt_alloc_checks, ioas_alloc_checks, map_checks}
+use Rattle.iofd_refusals.specs.Checks.{unmap_checks, user_map_checks, user_unmap_checks, user_write_checks}
 use Rattle.iofd_words.specs.Levels.{number_at}
-use Rattle.iofd_words.specs.Run.{after, world_of}
+use Rattle.iofd_steps.specs.Run.{after, world_of}
 use Rattle.iofd_words.specs.Tables.{with_tables}
 use Rattle.iofd_access_examples.proofs.pins.pin_script_leaves_its_worlds.Goals as goal
 

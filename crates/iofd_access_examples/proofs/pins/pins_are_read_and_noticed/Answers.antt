@@ -1,5 +1,5 @@
 use Rattle.std.proofs.Common.{refl}
-use Rattle.iofd_words.specs.Look.{answers_in}
+use Rattle.iofd_steps.specs.Look.{answers_in}
 use Rattle.iofd_access_examples.proofs.pins.pins_are_read_and_noticed.Goals as goal
 
 pub returns-clause-pinned : goal.returns-clause-pinned

@@ -1,6 +1,6 @@
 use Rattle.std.proofs.Common.{refl}
-use Rattle.iofd_words.specs.Checks.{access_attach_checks, access_detach_checks, access_pin_checks}
-use Rattle.iofd_words.specs.Checks.{access_unpin_checks, access_write_checks, close_checks, destroy_checks}
+use Rattle.iofd_refusals.specs.Checks.{access_attach_checks, access_detach_checks, access_pin_checks}
+use Rattle.iofd_refusals.specs.Checks.{access_unpin_checks, access_write_checks, close_checks, destroy_checks}
 use Rattle.iofd_words.specs.Levels.{number_at}
 use Rattle.iofd_access_examples.proofs.pins.pins_are_refused.Goals as goal
 

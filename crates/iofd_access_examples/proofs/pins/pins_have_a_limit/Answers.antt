@@ -1,5 +1,5 @@
 use Rattle.std.proofs.Common.{refl}
-use Rattle.iofd_words.specs.Checks.{access_pin_checks}
+use Rattle.iofd_refusals.specs.Checks.{access_pin_checks}
 use Rattle.iofd_words.specs.Levels.{number_at}
 use Rattle.iofd_access_examples.proofs.pins.pins_have_a_limit.Goals as goal
 

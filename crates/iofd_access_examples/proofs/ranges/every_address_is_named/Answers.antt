@@ -1,9 +1,9 @@
 use Rattle.std.proofs.Common.{refl, arith}
-use Rattle.iofd_words.specs.After.{changed, settle, without_areas}
-use Rattle.iofd_words.specs.Answers.{Answers}
-use Rattle.iofd_words.specs.Checks.{unmap_checks}
+use Rattle.iofd_steps.specs.After.{changed, settle, without_areas}
+use Rattle.iofd_steps.specs.Answers.{Answers}
+use Rattle.iofd_refusals.specs.Checks.{unmap_checks}
 use Rattle.iofd_words.specs.Levels.{number_at}
-use Rattle.iofd_words.specs.Run.{Lawful, after}
+use Rattle.iofd_steps.specs.Run.{Lawful, after}
 use Rattle.iofd_words.specs.Tables.{with_tables}
 use Rattle.iofd_access_examples.proofs.Never.{lower}
 use Rattle.iofd_access_examples.proofs.ranges.every_address_is_named.Goals as goal

@@ -1,5 +1,5 @@
 use Rattle.std.proofs.Common.{refl}
-use Rattle.iofd_words.specs.Checks.{map_checks}
+use Rattle.iofd_refusals.specs.Checks.{map_checks}
 use Rattle.iofd_words.specs.Levels.{number_at}
 use Rattle.iofd_access_examples.proofs.ranges.least_address_lies_behind_what_is_kept.Goals as goal
 

@@ -1,10 +1,10 @@
 use Rattle.std.proofs.Common.{refl}
-use Rattle.iofd_words.specs.After.{changed, settle, without_areas, attached, detached}
-use Rattle.iofd_words.specs.Checks.{attach_checks, bind_checks, close_checks, detach_checks, flush_checks}
-use Rattle.iofd_words.specs.Checks.{hwpt_alloc_checks, ioas_alloc_checks, map_checks, unbind_checks}
-use Rattle.iofd_words.specs.Checks.{unmap_checks, user_map_checks}
+use Rattle.iofd_steps.specs.After.{changed, settle, without_areas, attached, detached}
+use Rattle.iofd_refusals.specs.Checks.{attach_checks, bind_checks, close_checks, detach_checks, flush_checks}
+use Rattle.iofd_refusals.specs.Checks.{hwpt_alloc_checks, ioas_alloc_checks, map_checks, unbind_checks}
+use Rattle.iofd_refusals.specs.Checks.{unmap_checks, user_map_checks}
 use Rattle.iofd_words.specs.Levels.{number_at}
-use Rattle.iofd_words.specs.Run.{after, world_of}
+use Rattle.iofd_steps.specs.Run.{after, world_of}
 use Rattle.iofd_words.specs.Tables.{with_tables}
 use Rattle.iofd_access_examples.proofs.tables.table_script_leaves_its_worlds.Goals as goal
 

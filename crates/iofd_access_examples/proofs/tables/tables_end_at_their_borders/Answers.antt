@@ -1,9 +1,9 @@
 use Rattle.std.proofs.Common.{refl}
-use Rattle.iofd_words.specs.After.{changed, settle, without_areas}
-use Rattle.iofd_words.specs.Answers.{Answers}
-use Rattle.iofd_words.specs.Checks.{unmap_checks}
+use Rattle.iofd_steps.specs.After.{changed, settle, without_areas}
+use Rattle.iofd_steps.specs.Answers.{Answers}
+use Rattle.iofd_refusals.specs.Checks.{unmap_checks}
 use Rattle.iofd_words.specs.Levels.{number_at}
-use Rattle.iofd_words.specs.Run.{Lawful, after}
+use Rattle.iofd_steps.specs.Run.{Lawful, after}
 use Rattle.iofd_words.specs.Tables.{with_tables}
 use Rattle.iofd_access_examples.proofs.Never.{never}
 use Rattle.iofd_access_examples.proofs.tables.tables_end_at_their_borders.Goals as goal

@@ -1,13 +1,14 @@
 use Rattle.std.proofs.Common.{refl}
-use Rattle.iofd_words.specs.After.{changed, settle, without_areas, attached, detached, joined}
-use Rattle.iofd_words.specs.Answers.{Answers}
-use Rattle.iofd_words.specs.Checks.{allow_iovas_checks, attach_checks, bind_checks, close_checks, copy_checks}
-use Rattle.iofd_words.specs.Checks.{destroy_checks, detach_checks, device_write_checks, flush_checks, hwpt_alloc_checks}
-use Rattle.iofd_words.specs.Checks.{ioas_alloc_checks, map_checks, unbind_checks, unmap_checks, user_map_checks}
-use Rattle.iofd_words.specs.Checks.{user_unmap_checks, user_write_checks}
+use Rattle.iofd_steps.specs.After.{changed, settle, without_areas, attached, detached, joined}
+use Rattle.iofd_steps.specs.Answers.{Answers}
+use Rattle.iofd_refusals.specs.Checks.{allow_iovas_checks, attach_checks, bind_checks, close_checks, copy_checks}
+use Rattle.iofd_refusals.specs.Checks.{destroy_checks, detach_checks, device_write_checks, flush_checks}
+use Rattle.iofd_refusals.specs.Checks.{hwpt_alloc_checks}
+use Rattle.iofd_refusals.specs.Checks.{ioas_alloc_checks, map_checks, unbind_checks, unmap_checks, user_map_checks}
+use Rattle.iofd_refusals.specs.Checks.{user_unmap_checks, user_write_checks}
 use Rattle.iofd_words.specs.Levels.{number_at}
 use Rattle.iofd_words.specs.Policy.{access_outcomes, outcomes}
-use Rattle.iofd_words.specs.Run.{Lawful, after}
+use Rattle.iofd_steps.specs.Run.{Lawful, after}
 use Rattle.iofd_words.specs.Tables.{with_tables}
 use Rattle.iofd_examples.proofs.Never.{same_cause}
 use Rattle.iofd_examples.proofs.choices.refused_records_change_nothing.Goals as goal

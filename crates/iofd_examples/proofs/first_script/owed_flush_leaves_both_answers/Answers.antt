@@ -1,13 +1,13 @@
-use Rattle.iofd_words.specs.Checks.{attach_checks, bind_checks, close_checks, destroy_checks, detach_checks}
-use Rattle.iofd_words.specs.Checks.{device_write_checks, flush_checks, ioas_alloc_checks, map_checks, unmap_checks}
-use Rattle.iofd_words.specs.Checks.{user_map_checks}
+use Rattle.iofd_refusals.specs.Checks.{attach_checks, bind_checks, close_checks, destroy_checks, detach_checks}
+use Rattle.iofd_refusals.specs.Checks.{device_write_checks, flush_checks, ioas_alloc_checks, map_checks, unmap_checks}
+use Rattle.iofd_refusals.specs.Checks.{user_map_checks}
 use Rattle.iofd_words.specs.Levels.{number_at}
 use Rattle.iofd_words.specs.Tables.{with_tables}
 use Rattle.std.proofs.Common.{refl, arith}
-use Rattle.iofd_words.specs.After.{changed, settle, without_areas, attached, detached}
-use Rattle.iofd_words.specs.Answers.{Answers}
+use Rattle.iofd_steps.specs.After.{changed, settle, without_areas, attached, detached}
+use Rattle.iofd_steps.specs.Answers.{Answers}
 use Rattle.iofd_words.specs.Policy.{access_outcomes, outcomes}
-use Rattle.iofd_words.specs.Run.{IsRun, Lawful, after}
+use Rattle.iofd_steps.specs.Run.{IsRun, Lawful, after}
 use Rattle.iofd_examples.proofs.first_script.owed_flush_leaves_both_answers.Goals as goal
 
 -- the frame is the first of the two answers, the denial the second

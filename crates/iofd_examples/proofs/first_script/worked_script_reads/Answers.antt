@@ -1,13 +1,13 @@
-use Rattle.iofd_words.specs.Checks.{attach_checks, bind_checks, close_checks, destroy_checks, detach_checks}
-use Rattle.iofd_words.specs.Checks.{device_write_checks, flush_checks, ioas_alloc_checks, map_checks, unmap_checks}
-use Rattle.iofd_words.specs.Checks.{user_map_checks}
+use Rattle.iofd_refusals.specs.Checks.{attach_checks, bind_checks, close_checks, destroy_checks, detach_checks}
+use Rattle.iofd_refusals.specs.Checks.{device_write_checks, flush_checks, ioas_alloc_checks, map_checks, unmap_checks}
+use Rattle.iofd_refusals.specs.Checks.{user_map_checks}
 use Rattle.iofd_words.specs.Levels.{number_at}
 use Rattle.iofd_words.specs.Tables.{with_tables}
 use Rattle.std.proofs.Common.{refl}
-use Rattle.iofd_words.specs.After.{changed, settle, without_areas, attached, detached}
-use Rattle.iofd_words.specs.Look.{answers_in}
+use Rattle.iofd_steps.specs.After.{changed, settle, without_areas, attached, detached}
+use Rattle.iofd_steps.specs.Look.{answers_in}
 use Rattle.iofd_words.specs.Policy.{access_outcomes, outcomes}
-use Rattle.iofd_words.specs.Run.{world_of, after}
+use Rattle.iofd_steps.specs.Run.{world_of, after}
 use Rattle.iofd_examples.proofs.first_script.worked_script_reads.Goals as goal
 
 pub returns-clause-bytes : goal.returns-clause-bytes

@@ -1,5 +1,5 @@
 use Rattle.std.proofs.Common.{refl}
-use Rattle.iofd_words.specs.Checks.{copy_checks, map_checks}
+use Rattle.iofd_refusals.specs.Checks.{copy_checks, map_checks}
 use Rattle.iofd_words.specs.Levels.{number_at}
 use Rattle.iofd_examples.proofs.limits.areas_have_a_limit.Goals as goal
 

@@ -1,6 +1,6 @@
 use Rattle.std.proofs.Common.{refl}
-use Rattle.iofd_words.specs.Checks.{access_create_checks, attach_checks, bind_checks, hwpt_alloc_checks}
-use Rattle.iofd_words.specs.Checks.{ioas_alloc_checks}
+use Rattle.iofd_refusals.specs.Checks.{access_create_checks, attach_checks, bind_checks, hwpt_alloc_checks}
+use Rattle.iofd_refusals.specs.Checks.{ioas_alloc_checks}
 use Rattle.iofd_words.specs.Levels.{number_at}
 use Rattle.iofd_examples.proofs.limits.objects_have_a_limit.Goals as goal
 

@@ -1,5 +1,5 @@
 use Rattle.std.proofs.Common.{refl}
-use Rattle.iofd_words.specs.Checks.{user_map_checks, user_unmap_checks, user_write_checks}
+use Rattle.iofd_refusals.specs.Checks.{user_map_checks, user_unmap_checks, user_write_checks}
 use Rattle.iofd_examples.proofs.refusals.accesses_are_refused.Goals as goal
 
 pub returns-clause-all : goal.returns-clause-all

@@ -1,5 +1,5 @@
 use Rattle.std.proofs.Common.{refl}
-use Rattle.iofd_words.specs.Checks.{allow_iovas_checks}
+use Rattle.iofd_refusals.specs.Checks.{allow_iovas_checks}
 use Rattle.iofd_examples.proofs.refusals.allowed_ranges_are_refused.Goals as goal
 
 pub returns-clause-all : goal.returns-clause-all

@@ -1,5 +1,5 @@
 use Rattle.std.proofs.Common.{refl}
-use Rattle.iofd_words.specs.Checks.{attach_checks, hwpt_alloc_checks}
+use Rattle.iofd_refusals.specs.Checks.{attach_checks, hwpt_alloc_checks}
 use Rattle.iofd_words.specs.Levels.{number_at}
 use Rattle.iofd_examples.proofs.refusals.attachments_are_refused.Goals as goal
 

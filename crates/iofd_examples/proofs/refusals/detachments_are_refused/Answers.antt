@@ -1,5 +1,5 @@
 use Rattle.std.proofs.Common.{refl}
-use Rattle.iofd_words.specs.Checks.{detach_checks, flush_checks}
+use Rattle.iofd_refusals.specs.Checks.{detach_checks, flush_checks}
 use Rattle.iofd_examples.proofs.refusals.detachments_are_refused.Goals as goal
 
 pub returns-clause-all : goal.returns-clause-all

@@ -1,5 +1,5 @@
 use Rattle.std.proofs.Common.{refl}
-use Rattle.iofd_words.specs.Checks.{map_checks}
+use Rattle.iofd_refusals.specs.Checks.{map_checks}
 use Rattle.iofd_words.specs.Levels.{number_at}
 use Rattle.iofd_examples.proofs.refusals.maps_are_refused.Goals as goal
 

@@ -1,5 +1,5 @@
 use Rattle.std.proofs.Common.{refl}
-use Rattle.iofd_words.specs.Checks.{bind_checks, close_checks, destroy_checks, ioas_alloc_checks, unbind_checks}
+use Rattle.iofd_refusals.specs.Checks.{bind_checks, close_checks, destroy_checks, ioas_alloc_checks, unbind_checks}
 use Rattle.iofd_examples.proofs.refusals.objects_are_refused.Goals as goal
 
 pub returns-clause-all : goal.returns-clause-all

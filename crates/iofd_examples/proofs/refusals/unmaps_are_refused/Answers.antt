@@ -1,5 +1,5 @@
 use Rattle.std.proofs.Common.{refl}
-use Rattle.iofd_words.specs.Checks.{map_checks, unmap_checks}
+use Rattle.iofd_refusals.specs.Checks.{map_checks, unmap_checks}
 use Rattle.iofd_words.specs.Levels.{number_at}
 use Rattle.iofd_examples.proofs.refusals.unmaps_are_refused.Goals as goal
 

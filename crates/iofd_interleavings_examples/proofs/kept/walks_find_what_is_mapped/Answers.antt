@@ -1,5 +1,5 @@
 use Rattle.std.proofs.Common.{refl}
-use Rattle.iofd_words.specs.Look.{answers_in}
+use Rattle.iofd_steps.specs.Look.{answers_in}
 use Rattle.iofd_words.specs.Policy.{access_outcomes, outcomes}
 use Rattle.iofd_words.specs.Walk.{translation}
 use Rattle.iofd_interleavings_examples.proofs.kept.walks_find_what_is_mapped.Goals as goal

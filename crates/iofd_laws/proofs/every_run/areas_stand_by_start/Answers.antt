@@ -1,7 +1,7 @@
 use Rattle.iofd_words.specs.Tables.{with_tables}
 use Rattle.std.proofs.Common.{◌≡◌, true, refl}
 use Rattle.iofd_laws.specs.Laws.{starts_rise}
-use Rattle.iofd_words.specs.Run.{IsRun, world_of}
+use Rattle.iofd_steps.specs.Run.{IsRun, world_of}
 use Rattle.iofd_words.specs.World.{opening}
 use Rattle.iofd_laws.proofs.AreasRise.{keeps_rise}
 use Rattle.iofd_runs.proofs.Runs.{run_keeps}

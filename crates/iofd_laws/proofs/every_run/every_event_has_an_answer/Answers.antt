@@ -1,7 +1,7 @@
 use Rattle.std.proofs.Common.{length, refl, arith}
 use Rattle.iofd_runs.specs.Fits.{RowsFit}
 use Rattle.iofd_rows.specs.Pinned.{ArePinned}
-use Rattle.iofd_words.specs.Run.{IsRun, world_of}
+use Rattle.iofd_steps.specs.Run.{IsRun, world_of}
 use Rattle.iofd_words.specs.World.{opening}
 use Rattle.iofd_runs.proofs.KeepsFits.{keeps_fit, tabled_fit}
 use Rattle.iofd_runs.proofs.KeepsPins.{keeps_pins, later_pinned, tabled_pinned, opening_pinned}

@@ -9,10 +9,10 @@ use Rattle.iofd_runs.proofs.Runs.{run_keeps, run_keeps_at}
 use Rattle.iofd_runs.specs.Fits.{RowsFit}
 use Rattle.iofd_runs.specs.PinsFit.{AccessPinsFit}
 use Rattle.iofd_words.specs.Accesses.{accessed_frame}
-use Rattle.iofd_words.specs.Checks.{held_access_checks}
+use Rattle.iofd_refusals.specs.Checks.{held_access_checks}
 use Rattle.iofd_words.specs.FirstTrue.{first_true}
-use Rattle.iofd_words.specs.Look.{answers_in, page_bytes}
-use Rattle.iofd_words.specs.Run.{IsRun, world_of}
+use Rattle.iofd_steps.specs.Look.{answers_in, page_bytes}
+use Rattle.iofd_steps.specs.Run.{IsRun, world_of}
 use Rattle.iofd_words.specs.View.{view}
 use Rattle.iofd_words.specs.World.{World, opening}
 use Rattle.iofd_words.specs.declared.fault.AccessKind.TheVariants.{Read}

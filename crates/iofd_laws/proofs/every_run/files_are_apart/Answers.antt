@@ -1,5 +1,5 @@
 use Rattle.std.proofs.Common.{length}
-use Rattle.iofd_words.specs.Run.{IsRun, world_of}
+use Rattle.iofd_steps.specs.Run.{IsRun, world_of}
 use Rattle.iofd_words.specs.World.{opening}
 use Rattle.iofd_laws.proofs.FilesApart.{after_keeps_others}
 use Rattle.iofd_laws.proofs.KeepsBound.{IsTidy, are_bound, keeps_tidy, opening_tidy, tabled_tidy}

@@ -1,6 +1,6 @@
 use Rattle.std.proofs.Common.{◌≡◌, ◌∙◌, length, refl, ap, arith}
 use Rattle.iofd_words.specs.Files.{limit_of}
-use Rattle.iofd_words.specs.Run.{IsRun, world_of}
+use Rattle.iofd_steps.specs.Run.{IsRun, world_of}
 use Rattle.iofd_words.specs.Settings.{Settings}
 use Rattle.iofd_words.specs.World.{opening}
 use Rattle.iofd_laws.proofs.KeepsLimits.{KeptLimits, keeps_kept_limits, later_limits, opening_limits, tabled_limits}

@@ -1,5 +1,5 @@
 use Rattle.std.proofs.Common.{◌≡◌, ◌+◌, subst, [], ◌∷◌, length, refl, arith}
-use Rattle.iofd_words.specs.Run.{IsRun, Lawful, world_of}
+use Rattle.iofd_steps.specs.Run.{IsRun, Lawful, world_of}
 use Rattle.iofd_words.specs.World.{opening}
 use Rattle.iofd_laws.proofs.KeepsBound.{IsTidy, are_bound, keeps_tidy, opening_tidy, tabled_tidy}
 use Rattle.iofd_runs.proofs.KeepsOwnMemory.{OwnPins, keeps_own_pins, later_own, tabled_own}

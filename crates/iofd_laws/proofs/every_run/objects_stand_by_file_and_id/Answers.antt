@@ -1,4 +1,4 @@
-use Rattle.iofd_words.specs.Run.{IsRun, world_of}
+use Rattle.iofd_steps.specs.Run.{IsRun, world_of}
 use Rattle.iofd_words.specs.World.{opening}
 use Rattle.iofd_runs.proofs.KeepsRising.{ObjectsRise, keeps_rising, opening_rises, tabled_rises}
 use Rattle.iofd_runs.proofs.Runs.{run_keeps}

@@ -1,4 +1,4 @@
-use Rattle.iofd_words.specs.Run.{IsRun, world_of}
+use Rattle.iofd_steps.specs.Run.{IsRun, world_of}
 use Rattle.iofd_words.specs.World.{opening}
 use Rattle.iofd_laws.proofs.OwnFrames.{lawful_frame, lawful_taken}
 use Rattle.iofd_runs.proofs.Runs.{lawful_at}

@@ -1,6 +1,6 @@
 use Rattle.std.proofs.Common.{length, arith}
 use Rattle.iofd_rows.specs.Pinned.{ArePinned}
-use Rattle.iofd_words.specs.Run.{IsRun, world_of}
+use Rattle.iofd_steps.specs.Run.{IsRun, world_of}
 use Rattle.iofd_words.specs.World.{opening}
 use Rattle.iofd_laws.proofs.OutlivesUnmap.{after_outlives}
 use Rattle.iofd_laws.proofs.OwnFrames.{is_in}

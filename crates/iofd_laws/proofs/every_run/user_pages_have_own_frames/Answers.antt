@@ -1,7 +1,7 @@
 use Rattle.iofd_words.specs.Tables.{with_tables}
 use Rattle.std.proofs.Common.{◌≡◌, true, refl}
 use Rattle.iofd_laws.specs.Laws.{have_own_frames}
-use Rattle.iofd_words.specs.Run.{IsRun, world_of}
+use Rattle.iofd_steps.specs.Run.{IsRun, world_of}
 use Rattle.iofd_words.specs.World.{opening}
 use Rattle.iofd_laws.proofs.OwnFrames.{keeps_own_frames}
 use Rattle.iofd_runs.proofs.Runs.{run_keeps}

@@ -1,7 +1,7 @@
 use Rattle.std.proofs.Common.{refl}
 use Rattle.iofd_words.specs.Accesses.{pin_of}
-use Rattle.iofd_words.specs.After.{changed, settle}
-use Rattle.iofd_words.specs.Run.{world_of}
+use Rattle.iofd_steps.specs.After.{changed, settle}
+use Rattle.iofd_steps.specs.Run.{world_of}
 use Rattle.iofd_words.specs.Tables.{with_tables}
 use Rattle.iofd_words.specs.View.{view}
 use Rattle.iofd_words.specs.declared.event.Event.TheVariants as event

@@ -1,5 +1,5 @@
 use Rattle.std.proofs.Common.{◌≤◌, ℕ, sym, subst, ◌&&◌, eqb}
-use Rattle.iofd_words.specs.Run.{world_of}
+use Rattle.iofd_steps.specs.Run.{world_of}
 use Rattle.iofd_words.specs.declared.rows.AccessPin.{AccessPin}
 use Rattle.iofd_rows.proofs.Each.{of_each}
 use Rattle.iofd_runs.specs.PinsFit.{is_fitting_pin}

@@ -1,6 +1,6 @@
 use Rattle.std.proofs.Common.{◌≡◌, length, refl}
-use Rattle.iofd_words.specs.After.{changed}
-use Rattle.iofd_words.specs.Run.{world_of}
+use Rattle.iofd_steps.specs.After.{changed}
+use Rattle.iofd_steps.specs.Run.{world_of}
 use Rattle.iofd_words.specs.Tables.{with_tables}
 use Rattle.iofd_laws.proofs.PinsApart.{others_pins}
 use Rattle.iofd_runs.proofs.Moves.{changed_moves}

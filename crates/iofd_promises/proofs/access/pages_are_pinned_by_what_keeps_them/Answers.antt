@@ -1,5 +1,5 @@
 use Rattle.std.proofs.Common.{length}
-use Rattle.iofd_words.specs.Run.{world_of}
+use Rattle.iofd_steps.specs.Run.{world_of}
 use Rattle.iofd_promises.proofs.Facts.{pinned_of, usable_of}
 use Rattle.iofd_promises.proofs.KeptPinned.{has_pin, pin_is_kept}
 use Rattle.iofd_promises.proofs.Rows.{within}

@@ -1,8 +1,8 @@
 use Rattle.std.proofs.Common.{◌≡◌, true, [], ◌∷◌, ◌++◌, length, Contains}
 use Rattle.std.specs.List.{list_any}
-use Rattle.iofd_words.specs.After.{changed}
+use Rattle.iofd_steps.specs.After.{changed}
 use Rattle.iofd_words.specs.Pins.{is_page, page_of_pin}
-use Rattle.iofd_words.specs.Run.{world_of}
+use Rattle.iofd_steps.specs.Run.{world_of}
 use Rattle.iofd_words.specs.Tables.{with_tables}
 use Rattle.iofd_runs.proofs.Moves.{changed_moves}
 use Rattle.iofd_runs.proofs.PagesToPin.{pages_in}

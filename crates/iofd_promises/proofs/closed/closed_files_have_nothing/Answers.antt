@@ -1,4 +1,4 @@
-use Rattle.iofd_words.specs.Run.{world_of}
+use Rattle.iofd_steps.specs.Run.{world_of}
 use Rattle.iofd_runs.proofs.Accessed.{each_held}
 use Rattle.iofd_promises.proofs.ClosedFiles.{allowed_open, has_nothing}
 use Rattle.iofd_promises.proofs.Facts.{fits_of, pinned_of, usable_of}

@@ -1,6 +1,6 @@
 use Rattle.std.proofs.Common.{Contains, List, [], ◌∷◌, ◌++◌, length, refl, inl, inr}
-use Rattle.iofd_words.specs.After.{changed, settle, without_areas}
-use Rattle.iofd_words.specs.Run.{world_of}
+use Rattle.iofd_steps.specs.After.{changed, settle, without_areas}
+use Rattle.iofd_steps.specs.Run.{world_of}
 use Rattle.iofd_words.specs.Tables.{with_tables}
 use Rattle.iofd_words.specs.declared.event.Event.TheVariants as event
 use Rattle.iofd_words.specs.declared.numbers.FileNo.{FileNo}

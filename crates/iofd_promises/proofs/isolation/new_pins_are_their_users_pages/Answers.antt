@@ -1,5 +1,5 @@
 use Rattle.std.proofs.Common.{length, Contains, ◌⊎◌, inl, inr, ⊎_elim}
-use Rattle.iofd_words.specs.Run.{world_of}
+use Rattle.iofd_steps.specs.Run.{world_of}
 use Rattle.iofd_words.specs.Tables.{with_tables}
 use Rattle.iofd_promises.specs.Owners.{IsUsersPage}
 use Rattle.iofd_rows.proofs.Each.{IsIn}
@@ -7,7 +7,7 @@ use Rattle.iofd_runs.proofs.Moves.{changed_moves}
 use Rattle.iofd_promises.proofs.NewPins.{pin_from}
 use Rattle.iofd_promises.proofs.Rows.{contains, within}
 use Rattle.iofd_promises.proofs.Steps.{by_record}
-use Rattle.iofd_words.specs.After.{changed}
+use Rattle.iofd_steps.specs.After.{changed}
 use Rattle.iofd_promises.proofs.isolation.new_pins_are_their_users_pages.Goals as goal
 
 pub returns : goal.returns

@@ -1,6 +1,6 @@
 use Rattle.std.proofs.Common.{◌≡◌, suc, Some, sym, ap, ◌∙◌, arith}
 use Rattle.iofd_words.specs.Files.{numbered}
-use Rattle.iofd_words.specs.Run.{world_of}
+use Rattle.iofd_steps.specs.Run.{world_of}
 use Rattle.iofd_promises.proofs.Facts.{widths_of}
 use Rattle.iofd_promises.proofs.Rows.{within}
 use Rattle.iofd_rows.proofs.Named.{row_kind}

@@ -1,4 +1,4 @@
-use Rattle.iofd_words.specs.Run.{world_of}
+use Rattle.iofd_steps.specs.Run.{world_of}
 use Rattle.iofd_promises.proofs.Rows.{within}
 use Rattle.iofd_promises.proofs.TableLevels.{has_place}
 use Rattle.iofd_promises.proofs.isolation.tables_are_of_their_page_tables_width.Goals as goal

@@ -1,6 +1,6 @@
 use Rattle.std.proofs.Common.{◌≡◌, true, eqb, arith}
 use Rattle.std.proofs.lemmas.Bool.Decides.{nat_tests}
-use Rattle.iofd_words.specs.Run.{world_of}
+use Rattle.iofd_steps.specs.Run.{world_of}
 use Rattle.iofd_rows.proofs.Bools.{both_true}
 use Rattle.iofd_promises.proofs.Lists.{one_place}
 use Rattle.iofd_promises.proofs.PageRows.{frames_apart, pages_apart, same_frame, same_page}

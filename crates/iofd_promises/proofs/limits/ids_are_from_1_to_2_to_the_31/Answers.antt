@@ -1,6 +1,6 @@
 use Rattle.std.proofs.Common.{leb, arith}
 use Rattle.std.proofs.lemmas.Bool.Decides.{nat_tests}
-use Rattle.iofd_words.specs.Run.{world_of}
+use Rattle.iofd_steps.specs.Run.{world_of}
 use Rattle.iofd_rows.proofs.Bools.{and_true}
 use Rattle.iofd_rows.proofs.Each.{of_each}
 use Rattle.iofd_promises.proofs.Counted.{good_ids, has_good_id}

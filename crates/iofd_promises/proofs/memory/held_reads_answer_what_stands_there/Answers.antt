@@ -1,5 +1,5 @@
 use Rattle.std.proofs.Common.{length}
-use Rattle.iofd_words.specs.Run.{world_of}
+use Rattle.iofd_steps.specs.Run.{world_of}
 use Rattle.iofd_promises.proofs.Facts.{fits_of, pinned_of, pins_fit_of}
 use Rattle.iofd_promises.proofs.HeldBytes.{held_reads}
 use Rattle.iofd_promises.proofs.memory.held_reads_answer_what_stands_there.Goals as goal

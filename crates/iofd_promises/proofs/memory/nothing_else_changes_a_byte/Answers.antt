@@ -1,8 +1,8 @@
 use Rattle.std.proofs.Common.{◌≡◌, length, refl}
-use Rattle.iofd_words.specs.Run.{world_of}
+use Rattle.iofd_steps.specs.Run.{world_of}
 use Rattle.iofd_words.specs.Tables.{with_tables}
 use Rattle.iofd_promises.specs.Bytes.{reads}
-use Rattle.iofd_words.specs.After.{changed}
+use Rattle.iofd_steps.specs.After.{changed}
 use Rattle.iofd_promises.proofs.KeepsBytes.{keeps_byte}
 use Rattle.iofd_runs.proofs.Moves.{changed_moves}
 use Rattle.iofd_promises.proofs.Steps.{by_record}

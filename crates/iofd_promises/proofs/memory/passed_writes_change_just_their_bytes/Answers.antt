@@ -1,6 +1,6 @@
 use Rattle.std.proofs.Common.{◌%◌, refl}
-use Rattle.iofd_words.specs.After.{changed}
-use Rattle.iofd_words.specs.Run.{world_of}
+use Rattle.iofd_steps.specs.After.{changed}
+use Rattle.iofd_steps.specs.Run.{world_of}
 use Rattle.iofd_words.specs.Tables.{with_tables}
 use Rattle.iofd_words.specs.declared.event.Event.TheVariants as event
 use Rattle.iofd_words.specs.declared.reply.Reply.TheVariants as reply

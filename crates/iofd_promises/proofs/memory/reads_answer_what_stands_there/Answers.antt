@@ -1,4 +1,4 @@
-use Rattle.iofd_words.specs.Run.{world_of}
+use Rattle.iofd_steps.specs.Run.{world_of}
 use Rattle.iofd_promises.proofs.UserPages.{user_reads}
 use Rattle.iofd_promises.proofs.memory.reads_answer_what_stands_there.Goals as goal
 

@@ -1,4 +1,4 @@
-use Rattle.iofd_words.specs.Run.{world_of}
+use Rattle.iofd_steps.specs.Run.{world_of}
 use Rattle.iofd_words.specs.declared.fault.AccessKind.TheVariants.{Write}
 use Rattle.iofd_promises.proofs.Denials.{not_denied}
 use Rattle.iofd_promises.proofs.Facts.{apart_of, usable_of, widths_of}

@@ -1,4 +1,4 @@
-use Rattle.iofd_words.specs.Run.{world_of}
+use Rattle.iofd_steps.specs.Run.{world_of}
 use Rattle.iofd_words.specs.declared.fault.AccessKind.TheVariants.{Read, Write}
 use Rattle.iofd_promises.proofs.Outcomes.{read_denied, write_denied}
 use Rattle.iofd_promises.proofs.Reasons.{tells_why}

@@ -2,7 +2,7 @@ use Rattle.iofd_promises.proofs.Facts.{fits_of}
 use Rattle.iofd_promises.proofs.Outcomes.{write_passes}
 use Rattle.iofd_promises.proofs.Reached.{reached}
 use Rattle.iofd_promises.proofs.Steps.{run_before}
-use Rattle.iofd_words.specs.Run.{world_of}
+use Rattle.iofd_steps.specs.Run.{world_of}
 use Rattle.iofd_words.specs.declared.fault.AccessKind.TheVariants.{Write}
 use Rattle.iofd_promises.proofs.policy.passed_writes_reach_their_frame.Goals as goal
 

@@ -1,5 +1,5 @@
 use Rattle.std.proofs.Common.{◌%◌, subst}
-use Rattle.iofd_words.specs.Run.{world_of}
+use Rattle.iofd_steps.specs.Run.{world_of}
 use Rattle.iofd_words.specs.declared.fault.AccessKind.TheVariants.{Read}
 use Rattle.iofd_promises.specs.Bytes.{AreBytesOf}
 use Rattle.iofd_promises.proofs.Bytes.{are_bytes}

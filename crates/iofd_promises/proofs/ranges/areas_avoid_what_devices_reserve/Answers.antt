@@ -1,6 +1,6 @@
 use Rattle.std.proofs.Common.{◌≡◌, suc, Some, ap, sym, ◌∙◌, subst, arith}
 use Rattle.iofd_words.specs.Files.{numbered}
-use Rattle.iofd_words.specs.Run.{world_of}
+use Rattle.iofd_steps.specs.Run.{world_of}
 use Rattle.iofd_words.specs.Settings.{Settings}
 use Rattle.iofd_promises.proofs.Facts.{usable_of, widths_of}
 use Rattle.iofd_promises.proofs.Rows.{within}

@@ -1,5 +1,5 @@
 use Rattle.std.proofs.Common.{subst, ◌<◌, ℕ}
-use Rattle.iofd_words.specs.Run.{world_of}
+use Rattle.iofd_steps.specs.Run.{world_of}
 use Rattle.iofd_promises.proofs.Facts.{usable_of}
 use Rattle.iofd_promises.proofs.Rows.{within}
 use Rattle.iofd_promises.proofs.Spans.{below_width, bounded_of}

@@ -1,7 +1,7 @@
 use Rattle.std.proofs.Common.{◌≡◌, Some, None, sym, ◌∙◌, subst}
 use Rattle.server_state.proofs.ViewShown.{same_refusal}
 use Rattle.iommufd_core.proofs.Answering.{refused_lawful, refused_after, answered_lawful, answered_after, if_ok, on_err}
-use Rattle.iofd_words.specs.Checks.{refusal}
+use Rattle.iofd_refusals.specs.Checks.{refusal}
 use Rattle.iofd_words.specs.declared.refusal.Cause.{Cause}
 use Rattle.server_state.specs.Shows.{Shows}
 use Rattle.iommufd_core.proofs.events.answer.Goals as goal

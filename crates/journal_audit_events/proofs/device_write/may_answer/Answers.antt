@@ -1,5 +1,5 @@
 use Rattle.std.proofs.Common.{ap}
-use Rattle.iofd_words.specs.Answers.{Answers}
+use Rattle.iofd_steps.specs.Answers.{Answers}
 use Rattle.iofd_words.specs.World.{World}
 use Rattle.journal_audit_events.proofs.Writes.{write_decided}
 use Rattle.journal_audit_events.proofs.device_write.may_answer.Goals as goal

@@ -1,5 +1,5 @@
 use Rattle.std.proofs.Common.{◌≡◌, List, ℕ, ap, subst, ◌∙◌}
-use Rattle.iofd_words.specs.Answers.{AnswersDirty}
+use Rattle.iofd_steps.specs.Answers.{AnswersDirty}
 use Rattle.iofd_words.specs.Dirty.{TrackedTable, reported_words}
 use Rattle.iofd_words.specs.World.{World}
 use Rattle.journal_audit_world.specs.Decides.{Decides}

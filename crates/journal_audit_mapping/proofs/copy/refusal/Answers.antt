@@ -1,5 +1,5 @@
 use Rattle.std.proofs.Common.{Some, None, cond, ◌&&◌, eqb, ap, sym, ◌∙◌}
-use Rattle.iofd_words.specs.Checks.{lacks_mapped_frames}
+use Rattle.iofd_refusals.specs.Checks.{lacks_mapped_frames}
 use Rattle.iofd_words.specs.FirstTrue.{first_true}
 use Rattle.iofd_words.specs.Pages.{is_above_sum}
 use Rattle.iofd_words.specs.Rights.{is_fixed}

@@ -1,7 +1,7 @@
 use Rattle.std.proofs.Common.{◌≡◌, drop, map}
 use Rattle.std.specs.List.{filter}
 use Rattle.iofd_words.specs.Bounds.{Bounds}
-use Rattle.iofd_words.specs.Checks.{least}
+use Rattle.iofd_refusals.specs.Checks.{least}
 use Rattle.iofd_words.specs.Fits.{whole_from}
 use Rattle.journal_audit_maps.specs.Newly.{lesser}
 use Rattle.journal_audit_mapping.specs.Starts.{may_lie}

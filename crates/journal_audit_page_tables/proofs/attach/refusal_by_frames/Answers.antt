@@ -1,5 +1,5 @@
 use Rattle.std.proofs.Common.{[], ◌∷◌, sym, ◌∙◌}
-use Rattle.iofd_words.specs.Checks.{lacks_attached_frames, lacks_attached_page, passes_limit_attached}
+use Rattle.iofd_refusals.specs.Checks.{lacks_attached_frames, lacks_attached_page, passes_limit_attached}
 use Rattle.iofd_words.specs.Files.{device_of}
 use Rattle.iofd_words.specs.View.{view}
 use Rattle.iofd_words.specs.declared.refusal.Cause.TheVariants as cause

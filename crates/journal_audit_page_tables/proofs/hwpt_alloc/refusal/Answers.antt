@@ -1,6 +1,6 @@
 use Rattle.std.proofs.Common.{[], ◌∷◌, sym, ◌∙◌, is_none, not}
-use Rattle.iofd_words.specs.Checks.{hwpt_alloc_checks, lacks_attached_page, lacks_new_tables, narrows_by_width}
-use Rattle.iofd_words.specs.Checks.{passes_limit_attached, waits_for_leaving}
+use Rattle.iofd_refusals.specs.Checks.{hwpt_alloc_checks, lacks_attached_page, lacks_new_tables, narrows_by_width}
+use Rattle.iofd_refusals.specs.Checks.{passes_limit_attached, waits_for_leaving}
 use Rattle.iofd_words.specs.Objects.{device_under, has_ioas, is_full, settings_under}
 use Rattle.iofd_words.specs.View.{view}
 use Rattle.iofd_words.specs.declared.refusal.Cause.TheVariants as cause

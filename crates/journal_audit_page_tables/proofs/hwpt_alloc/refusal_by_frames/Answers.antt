@@ -1,5 +1,5 @@
 use Rattle.std.proofs.Common.{[], ◌∷◌, sym, ◌∙◌}
-use Rattle.iofd_words.specs.Checks.{lacks_attached_page, lacks_new_tables, passes_limit_attached}
+use Rattle.iofd_refusals.specs.Checks.{lacks_attached_page, lacks_new_tables, passes_limit_attached}
 use Rattle.iofd_words.specs.Objects.{settings_under}
 use Rattle.iofd_words.specs.View.{view}
 use Rattle.iofd_words.specs.declared.refusal.Cause.TheVariants as cause

@@ -135,7 +135,7 @@ returns-clause-kept g c kept =
     let changed = standing_set all c.in-Some.place x y here is is in
     let rising = rising_left stands all c.requires.rising in
     subst MemoryInvariant (sym changed) (kept_set objects n place x new rising there found
-    c.unpin_by_access.ensures.pages.same c.table_pins.ensures.counted kept)
+    c.unpin_by_access.ensures.pages.same c.facts.ensures.counted kept)
 
 pub returns-clause-gone : goal.returns-clause-gone
 returns-clause-gone g c =

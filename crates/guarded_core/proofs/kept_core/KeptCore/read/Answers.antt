@@ -1,5 +1,5 @@
 use Rattle.std.proofs.Common.{◌≡◌, true, sym, ap, subst, ◌∙◌}
-use Rattle.iofd_words.specs.Look.{answers_to}
+use Rattle.iofd_steps.specs.Look.{answers_to}
 use Rattle.iofd_words.specs.declared.query.Query.{Query}
 use Rattle.iommufd_core.specs.History.{may_look}
 use Rattle.iommufd_core.specs.Server.{Server}

@@ -1,5 +1,5 @@
 use Rattle.std.proofs.Common.{Contains, subst}
-use Rattle.iofd_words.specs.Look.{answers_to}
+use Rattle.iofd_steps.specs.Look.{answers_to}
 use Rattle.iofd_words.specs.Turns.{turns_of}
 use Rattle.iofd_words.specs.declared.query.Query.TheVariants as query
 use Rattle.iommufd_core.specs.Server.{Server}

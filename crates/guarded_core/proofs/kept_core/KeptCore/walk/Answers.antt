@@ -1,5 +1,5 @@
 use Rattle.std.proofs.Common.{Contains, subst}
-use Rattle.iofd_words.specs.Look.{answers_to}
+use Rattle.iofd_steps.specs.Look.{answers_to}
 use Rattle.iofd_words.specs.View.{view}
 use Rattle.iofd_words.specs.Walk.{translation}
 use Rattle.iommufd_core.specs.History.{world}

@@ -1,5 +1,5 @@
 use Rattle.std.proofs.Common.{◌≡◌, length, inl, inr, refl, ◌∙◌, ap, subst, sym, arith, vec_capacity, vec_len}
-use Rattle.iofd_words.specs.Run.{world_of}
+use Rattle.iofd_steps.specs.Run.{world_of}
 use Rattle.iommufd_core.proofs.Applied.{may_use, unchanged_config, unchanged_kept, applied_chosen, applied_config}
 use Rattle.iommufd_core.proofs.Applied.{applied_frames, applied_kept}
 use Rattle.iommufd_core.proofs.Counted.{room_for_one}

@@ -2,7 +2,7 @@ use Rattle.std.proofs.Common.{◌≡◌, true, length, refl, ◌∙◌, ap, is_n
 use Rattle.std.specs.List.{list_any}
 use Rattle.iofd_rows.proofs.Bools.{and_true}
 use Rattle.iofd_words.specs.Policy.{is_pass_at, outcomes}
-use Rattle.iofd_words.specs.Run.{world_of}
+use Rattle.iofd_steps.specs.Run.{world_of}
 use Rattle.iofd_words.specs.declared.fault.AccessKind.TheVariants.{Read}
 use Rattle.iofd_words.specs.declared.query.Query.{Query}
 use Rattle.iofd_words.specs.declared.query.Query.TheVariants.{CachedRead}

@@ -1,8 +1,8 @@
 use Rattle.std.proofs.Common.{◌≡◌, true, false, Option, Some, None, is_none, is_some, length, refl, sym, ◌∙◌, ap}
 use Rattle.std.specs.List.{list_any}
 use Rattle.iofd_words.specs.FirstTrue.{first_true}
-use Rattle.iofd_words.specs.Look.{query_checks}
-use Rattle.iofd_words.specs.Run.{world_of}
+use Rattle.iofd_steps.specs.Look.{query_checks}
+use Rattle.iofd_steps.specs.Run.{world_of}
 use Rattle.iofd_words.specs.View.{view}
 use Rattle.iofd_words.specs.declared.query.Query.TheVariants.{DeviceRead}
 use Rattle.iommufd_core.proofs.Histories.{tidy_run}

@@ -2,7 +2,7 @@ use Rattle.std.proofs.Common.{◌≡◌, ◌<◌, length, ◌∙◌, ap, subst}
 use Rattle.std.specs.Result.{IfOk}
 use Rattle.iofd_words.specs.Accesses.{notices}
 use Rattle.iofd_words.specs.FirstTrue.{first_true}
-use Rattle.iofd_words.specs.Look.{notices_checks}
+use Rattle.iofd_steps.specs.Look.{notices_checks}
 use Rattle.iofd_words.specs.View.{View}
 use Rattle.iommufd_core.proofs.Histories.{same_kept}
 use Rattle.iommufd_core.proofs.apply.Core.notices.Goals as goal

@@ -27,9 +27,8 @@ invariant_of-self g c =
       freed = ap (list_all is_freed) (ap gone_among c.push_reserved.ensures.items ∙ gone_push before object refl)
           ∙ c.make_way-self-inside.ensures.freed;
       kept = subst M (sym is) (kept_appended (standing c.self.inside.entries.items) object c.self.invariant.kept
-          (rw (← c.self.view_is) at c.requires.rises) refl c.requires.pins (λ zero. c.table_pins.ensures.unpinned
-          (c.table_pins.ensures.value ∙ zero))
-          c.table_pins.ensures.counted);
+          (rw (← c.self.view_is) at c.requires.rises) refl c.requires.pins c.facts.ensures.unpinned
+          c.facts.ensures.counted);
     }
 
 pub returns-clause-frames : goal.returns-clause-frames

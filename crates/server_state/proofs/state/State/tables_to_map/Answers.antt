@@ -9,7 +9,7 @@ needs-requires-clause-span g c = known_span c.args.self.now c.requires.known c.a
 
 pub needs-requires-clause-few : goal.needs-requires-clause-few
 needs-requires-clause-few g c =
-    known_few c.args.self.now c.requires.known c.args.file c.args.ioas c.args.span c.pool.ensures.within
+    known_few c.args.self.now c.requires.known c.args.file c.args.ioas c.args.span c.facts.ensures
 
 pub returns : goal.returns
 returns g c =

@@ -1,6 +1,6 @@
 use Rattle.std.proofs.Common.{sym, subst}
 use Rattle.std.specs.Arc.{arc_value}
-use Rattle.iofd_words.specs.Run.{IsRun}
+use Rattle.iofd_steps.specs.Run.{IsRun}
 use Rattle.iommufd_core.specs.Server.{Server as CoreServer}
 use Rattle.lane_lock.specs.Ending.{EndsWith, GivesAllBack}
 use Rattle.lane_lock.specs.Passes.{OwnsAll}

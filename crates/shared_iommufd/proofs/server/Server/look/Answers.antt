@@ -1,6 +1,6 @@
 use Rattle.std.proofs.Common.{refl, rules}
-use Rattle.iofd_words.specs.Look.{answers_to}
-use Rattle.iofd_words.specs.Run.{IsRun}
+use Rattle.iofd_steps.specs.Look.{answers_to}
+use Rattle.iofd_steps.specs.Run.{IsRun}
 use Rattle.server_state.specs.Choice.{IsLooked}
 use Rattle.guarded_core.specs.Opening.{opened_with}
 use Rattle.shared_iommufd.specs.Servers.{settings_of}

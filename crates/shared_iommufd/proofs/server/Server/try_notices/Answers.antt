@@ -1,5 +1,5 @@
 use Rattle.std.proofs.Common.{refl, rules, Ok, Err, subst}
-use Rattle.iofd_words.specs.Run.{IsRun}
+use Rattle.iofd_steps.specs.Run.{IsRun}
 use Rattle.guarded_core.specs.Opening.{opened_with}
 use Rattle.shared_iommufd.specs.Servers.{settings_of}
 use Rattle.guarded_core.specs.Told.{TellsNotices}

@@ -1,9 +1,8 @@
 use Rattle.std.proofs.Common.{◌≡◌, ◌∙◌, List, cond, length, true, ltb, subst, sym, ap, arith}
 use Rattle.std.specs.Prelude.{IsSome}
 use Rattle.std.specs.List.{list_all}
-use Rattle.iofd_words.specs.Checks as checks
 use Rattle.iofd_words.specs.Files.{numbered}
-use Rattle.iofd_words.specs.Frames.{frame_at}
+use Rattle.iofd_words.specs.Frames.{frame_at, has_pages}
 use Rattle.iofd_words.specs.Pages.{page_of}
 use Rattle.mem_account.specs.declared.Account.{Account}
 use Rattle.memory_objects.specs.Invariant.{MemoryInvariant}
@@ -26,7 +25,7 @@ object_pages-requires-clause-may g c = λ pinned.
     let is = sym c.self.view_is in
     let row = c.args.row in
     let Present : Memory → Type 0 =
-    λ m. checks.has_pages (frame_at m.pages) row.user (page_of row.va) row.count ≡ true in
+    λ m. has_pages (frame_at m.pages) row.user (page_of row.va) row.count ≡ true in
     let Room : Memory → Type 0 = λ m. memory.has_room m row.user row.count ≡ true in
     let Backed : Memory → Type 0 = λ m. IsBacked m c.args.pool.now.holds in
     may_pin c.self.inside.users.pages c.self.inside.accounts c.self.inside.objects.objects c.self.invariant
@@ -34,8 +33,8 @@ object_pages-requires-clause-may g c = λ pinned.
     (subst Present is (c.requires.present pinned)) (subst Room is (c.requires.room pinned))
     (backed_without c.self.inside.users.room (memory_of c.self.inside.users.pages (limits_of c.self.inside.accounts)
     c.self.inside.objects.objects) c.args.pool.now.holds (subst Backed is c.requires.backed))
-    (omega (arith, c.len.ensures, c.len.type_inv))
-    (omega (arith, c.len-2.ensures, c.len-2.type_inv, ap length c.reserve.ensures.objects))
+    c.facts.ensures
+    (omega (arith, c.facts-2.ensures, ap length c.reserve.ensures.objects))
 
 pub insert-requires-clause-rises : goal.insert-requires-clause-rises
 insert-requires-clause-rises g c =
@@ -52,7 +51,7 @@ invariant_of-self-2 g c =
     let old = c.self.inside.objects.objects in
     let row = c.args.row in
     let Present : Memory → Type 0 =
-    λ m. checks.has_pages (frame_at m.pages) row.user (page_of row.va) row.count ≡ true in
+    λ m. has_pages (frame_at m.pages) row.user (page_of row.va) row.count ≡ true in
     let Rises : Memory → Type 0 = λ m. list_all (λ other. ltb other.number row.number) (memory.rows_of m) ≡ true in
     let User : Memory → Type 0 = λ m. IsSome (numbered m.limits row.user.0) in
     let present = λ (p : c.args.pinned ≡ true). subst Present (sym c.self.view_is) (c.requires.present p) in
@@ -75,7 +74,7 @@ returns-clause-object g c =
     let old = c.self.inside.objects.objects in
     let row = c.args.row in
     let Present : Memory → Type 0 =
-    λ m. checks.has_pages (frame_at m.pages) row.user (page_of row.va) row.count ≡ true in
+    λ m. has_pages (frame_at m.pages) row.user (page_of row.va) row.count ≡ true in
     let Rises : Memory → Type 0 = λ m. list_all (λ other. ltb other.number row.number) (memory.rows_of m) ≡ true in
     let present = λ (p : c.args.pinned ≡ true). subst Present (sym c.self.view_is) (c.requires.present p) in
     let below = rises_told old row.number (subst Rises (sym c.self.view_is) c.requires.rises) in
@@ -100,7 +99,7 @@ returns-clause-settles g c =
     let old = c.self.inside.objects.objects in
     let row = c.args.row in
     let Present : Memory → Type 0 =
-    λ m. checks.has_pages (frame_at m.pages) row.user (page_of row.va) row.count ≡ true in
+    λ m. has_pages (frame_at m.pages) row.user (page_of row.va) row.count ≡ true in
     let Rises : Memory → Type 0 = λ m. list_all (λ other. ltb other.number row.number) (memory.rows_of m) ≡ true in
     let User : Memory → Type 0 = λ m. IsSome (numbered m.limits row.user.0) in
     let present = λ (p : c.args.pinned ≡ true). subst Present (sym c.self.view_is) (c.requires.present p) in

@@ -1,6 +1,5 @@
 use Rattle.std.proofs.Common.{◌≡◌, true}
-use Rattle.iofd_words.specs.Checks.{has_pages}
-use Rattle.iofd_words.specs.Frames.{frame_at}
+use Rattle.iofd_words.specs.Frames.{frame_at, has_pages}
 use Rattle.iofd_words.specs.Pages.{page_of}
 use Rattle.user_memory.proofs.memory.UserMemory.has_pages.Given as goal
 

@@ -1,4 +1,4 @@
-use Rattle.std.proofs.Common.{◌≡◌, ◌≤◌, ◌+◌, ℕ, List, true, false, subst, sym, arith}
+use Rattle.std.proofs.Common.{◌≡◌, ◌≤◌, ◌+◌, ℕ, List, true, false, subst, sym}
 use Rattle.std.specs.List.{list_all, list_any}
 use Rattle.memory_objects.specs.Backed.{HoldsMove}
 use Rattle.memory_objects.specs.Invariant.{MemoryInvariant}
@@ -53,7 +53,7 @@ pin_by_table-requires g c =
     (subst Own is c.requires.own) (subst Present is c.requires.present) (subst Room is c.requires.room)
     (backed_without c.self.inside.users.room (memory_of c.self.inside.users.pages (limits_of accounts)
     c.self.inside.objects.objects) c.args.pool.now.holds (subst Backed is c.requires.backed))
-    (omega (arith, c.len.ensures, c.len.type_inv)) (omega (arith, c.len-2.ensures, c.len-2.type_inv)) in
+    c.facts.ensures c.facts-2.ensures in
     pin_allowed c.self.inside.users.pages accounts c.self.inside.objects.objects c.self.invariant ns
     c.reserve_frames.new.self.objects c.args.pool.now.holds c.reserve_frames.ensures.objects may
     (subst Areas is c.requires.areas)

@@ -77,7 +77,7 @@ pin_by_access-requires g c =
     (subst Few is c.requires.few)
     (backed_without c.self.inside.users.room (memory_of rows (limits_of accounts) old) holds
     (subst Backed is c.requires.backed))
-    (omega (arith, c.len.ensures, c.len.type_inv)) (omega (arith, c.len-2.ensures, c.len-2.type_inv))
+    c.facts.ensures c.facts-2.ensures
 
 pub invariant_of-self-2 : goal.invariant_of-self-2
 invariant_of-self-2 g c =

@@ -71,7 +71,7 @@ pin_by_table-requires g c =
     c.reserve_frames.ensures.invariant c.in_ok-reserve_frames.ensures.ok
     (subst Own back c.requires.own) (one_lacks m n (subst Present back c.requires.present)) room
     (backed_without c.self.inside.users.room m c.args.pool.now.holds (subst Backed back c.requires.backed))
-    (omega (arith, c.len.ensures, c.len.type_inv)) (omega (arith, c.len-2.ensures, c.len-2.type_inv)) in
+    c.facts.ensures c.facts-2.ensures in
     shared_allowed n grown new is rows c.args.pool.now.holds accounts c.reserve_frames.ensures.invariant may
 
 pub invariant_of-self-2 : goal.invariant_of-self-2

@@ -1,0 +1,4 @@
+pub mod After
+pub mod Answers
+pub mod Look
+pub mod Run
