@@ -2,7 +2,7 @@
 -- world after that is shown.
 use Rattle.std.proofs.Common.{◌≡◌, ℕ, ◌+◌, ◌<◌, ◌≤◌, ◌^◌, Bool, true, false, cond, not, ◌&&◌, eqb, leb, Option, Some}
 use Rattle.std.proofs.Common.{None, List, [], ◌∷◌}
-use Rattle.std.proofs.Common.{◌*◌, inl, inr, length, refl, ap, subst, sym, ◌∙◌, arith}
+use Rattle.std.proofs.Common.{◌*◌, inl, inr, length, refl, ap, subst, sym, ◌∙◌, arith, lt-ltb}
 use Rattle.std.specs.List.{count_by, filter, list_all, list_any}
 use Rattle.std.proofs.lemmas.Bool.Decides.{nat_tests}
 use Rattle.std.proofs.Math.Path.{fun_ext}
@@ -56,6 +56,7 @@ use Rattle.event_unmap.proofs.IdleGone.{world_left}
 use Rattle.event_unmap.proofs.Touched.{AreAlike, alike, left_own, unmet_outside}
 use Rattle.event_unmap.proofs.Unmapped.{own_shown}
 use Rattle.event_unmap.specs.Idle.{CanCount, CanGive, IfNeeded}
+use Rattle.event_unmap.specs.Lost.{loses_table}
 use Rattle.server_state.proofs.GivenBack.{parts}
 use Rattle.server_state.proofs.NewTables.{each_below}
 use Rattle.server_state.proofs.TablesToMap.{known_few}
@@ -70,6 +71,7 @@ use Rattle.server_state.specs.declared.held.Held.{Held}
 use Rattle.server_state.specs.declared.state.State.{State}
 use Rattle.object_table.specs.Table.{Table}
 use Rattle.user_memory.specs.Memory.{Memory}
+use Rattle.user_memory_rows.proofs.CountBy.{any_count}
 use Rattle.user_memory_rows.specs.Shown.{FramesShown, tables_in}
 
 -- ---- pages lead somewhere where an area holds them alone
@@ -247,6 +249,30 @@ module _ {A : Type 0} (at : ℕ) (w : World) (s : State A) (file : FileNo) (requ
     leave = can_leave;
   }
 
+  -- ---- the tables that go, by the definitions
+
+  abbrev goes : TableFrame → Bool
+  goes = is_idle new.objects new.areas file request.ioas
+
+  goes_is : is_idle_in file request.ioas left s.page_tables.tables ≡ goes
+  unfolding settle without_areas
+  goes_is = fun_ext (λ (t : TableFrame).
+      ap (λ (l : List Area). is_idle_in file request.ioas l s.page_tables.tables t) (sym left_areas)
+      ∙ idle_told w.objects s.page_tables.tables tidy.ids shows.tables.tables shows.tables.widths new.areas file
+      request.ioas t)
+
+  -- where one is counted, there is one
+  pub loses_one : IfNeeded s.pool s.page_tables.tables file request.ioas (own_areas s.objects file request.ioas)
+      (λ frames. 0 < count_by (is_idle_in file request.ioas
+      (areas_outside span (own_areas s.objects file request.ioas)) s.page_tables.tables) frames)
+      → loses_table w file request ≡ true
+  unfolding settle without_areas
+  loses_one counted =
+      let some : 0 < count_by goes w.table_frames =
+      subst (λ (p : TableFrame → Bool). 0 < count_by p w.table_frames) goes_is
+      (counted w.table_frames (leads_of w) shows.tables.stand needed) in
+      any_count goes w.table_frames ∙ lt-ltb 0 (count_by goes w.table_frames) some
+
   -- ---- once they are given back
 
   module _ (t : Table (Held A)) (memory : Memory) (pool after : FramePool) (given : List FrameNo) (count : ℕ)
@@ -257,16 +283,6 @@ module _ {A : Type 0} (at : ℕ) (w : World) (s : State A) (file : FileNo) (requ
       Sheds pool after frames leads s.page_tables.tables (is_idle_in file request.ioas
       (areas_outside span (own_areas s.objects file request.ioas)) s.page_tables.tables) given))
       (bytes : length after.bytes ≡ length after.holds) where
-    abbrev goes : TableFrame → Bool
-    goes = is_idle new.objects new.areas file request.ioas
-
-    goes_is : is_idle_in file request.ioas left s.page_tables.tables ≡ goes
-    unfolding settle without_areas
-    goes_is = fun_ext (λ (t : TableFrame).
-        ap (λ (l : List Area). is_idle_in file request.ioas l s.page_tables.tables t) (sym left_areas)
-        ∙ idle_told w.objects s.page_tables.tables tidy.ids shows.tables.tables shows.tables.widths new.areas file
-        request.ioas t)
-
     went : Sheds pool after w.table_frames (leads_of new) s.page_tables.tables goes given
     unfolding settle without_areas
     went = subst (λ (idle : TableFrame → Bool). Sheds pool after w.table_frames (leads_of new) s.page_tables.tables idle

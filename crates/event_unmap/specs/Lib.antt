@@ -1,3 +1,4 @@
 pub mod Cleared
 pub mod Idle
+pub mod Lost
 pub mod Waiting

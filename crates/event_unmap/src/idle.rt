@@ -1,6 +1,7 @@
 //! Tables that no area needs any more, which give their frames back.
 
-ghost use Rattle.std.specs.Prelude.{◌≡◌, ◌≤◌, ◌-◌, [], false, true, IsTrue, OnErr, OnOk, length, vec_capacity, vec_len};
+ghost use Rattle.std.specs.Prelude.{◌≡◌, ◌<◌, ◌≤◌, ◌-◌, [], false, true, IsTrue, OnErr, OnOk};
+ghost use Rattle.std.specs.Prelude.{length, vec_capacity, vec_len};
 ghost use Rattle.std.specs.List.{count_by};
 ghost use Rattle.area_map_rows.specs.Areas.{areas_outside};
 ghost use Rattle.event_unmap.specs.Idle.{CanCount, CanGive, IfNeeded};
@@ -15,7 +16,7 @@ use std::alloc::Allocator;
 
 /// Takes memory for the numbers of the frames that the tables are in which are idle once those of these areas of the
 /// address space have gone that lie in the span, if a page table translates them and they needn't wait. None are listed
-/// yet.
+/// yet. Memory is wanting only where there is such a table.
 pub(crate) fn reserve_given<A: Allocator>(
     page_tables: &PageTables<A>,
     pool: &Pool<A>,
@@ -35,6 +36,8 @@ pub(crate) fn reserve_given<A: Allocator>(
         ≤ vec_capacity given.new - vec_len given.new)) }
     ensures memory { OnErr result (IsTrue translated) }
     ensures pending { OnErr result (waits ≡ false) }
+    ensures lacking { OnErr result (IfNeeded pool.now page_tables.now.tables file ioas areas.now.areas (λ frames.
+        0 < count_by (is_idle_in file ioas (areas_outside span areas.now.areas) page_tables.now.tables) frames)) }
 {
     if !translated {
         return Ok(());

@@ -1,8 +1,9 @@
 //! UNMAP: areas go, or are on their way out until devices have flushed.
 
-ghost use Rattle.std.specs.Prelude.{◌≡◌, ◌<◌, ◌≤◌, ◌^◌, ◌&&◌, ◌∷◌, [], ℕ, false};
+ghost use Rattle.std.specs.Prelude.{◌≡◌, ◌<◌, ◌≤◌, ◌^◌, ◌&&◌, ◌∷◌, [], ℕ, false, true};
 ghost use Rattle.std.specs.Prelude.{length, not, None, IfOk, IfSome, IsSome, IsTrue, OnErr, Option};
 ghost use Rattle.area_map_rows.specs.Areas.{bytes_of};
+ghost use Rattle.event_unmap.specs.Lost.{loses_table};
 ghost use Rattle.iofd_words.specs.Areas.{areas_meet, is_cut, is_everything, most_areas, unmapped_span};
 ghost use Rattle.iofd_steps.specs.Answers.{waits};
 ghost use Rattle.iofd_refusals.specs.Checks.{unmap_checks};
@@ -72,8 +73,8 @@ fn refusal_by_areas<A: Allocator>(
 /// hundred tries; their tables stay. Else they go, with their memory objects and pins, the reply is how many bytes they
 /// had, and the tables that no area needs any more give their frames back, which are listed by rising number.
 ///
-/// The only error is want of memory for that list, where there is a page table over the address space and nothing is on
-/// its way out. It leaves the world as it was.
+/// The only error is want of memory for that list, where there is a page table over the address space, nothing is on
+/// its way out and some table gives its frame back. It leaves the world as it was.
 pub fn commit<A: Allocator>(
     state: &mut State<A>,
     file: FileNo,
@@ -89,6 +90,8 @@ pub fn commit<A: Allocator>(
     ensures memory { OnErr result (IsTrue (has_hwpt (objects_in state.old.objects) file request.ioas)) }
     ensures pending { OnErr result ((at : ℕ) (w : World) → IsTidy at w → Shows w state.old →
         first_true (unmap_checks (view w) file request) ≡ None → waits w file request ≡ false) }
+    ensures tables { OnErr result ((at : ℕ) (w : World) → IsTidy at w → Shows w state.old →
+        first_true (unmap_checks (view w) file request) ≡ None → loses_table w file request ≡ true) }
 {
     let Some(span) = unmapped_span(request) else {
         // It was refused.

@@ -17,7 +17,7 @@ use Rattle.iofd_words.specs.declared.numbers.PassNo.{PassNo}
 use Rattle.iofd_words.specs.declared.refusal.Cause.{Cause}
 use Rattle.iofd_words.specs.declared.reply.Reply.{Reply}
 use Rattle.iofd_words.specs.declared.rows.TableFrame.{TableFrame}
-use Rattle.iommufd_core.specs.Server.{takes_memory}
+use Rattle.iommufd_core.specs.Server.{may_lack, takes_memory}
 use Rattle.iofd_words.specs.declared.reply.Reply.TheVariants as reply
 use Rattle.iofd_runs.proofs.StillTabled.{MakesNone, TakesNone}
 use Rattle.server_state.proofs.Still.{chosen_moves}
@@ -64,6 +64,10 @@ pub on_err : {X E : Type 0} (r : Result X E) (P Q : Type 0) → (P → Q) → On
 on_err (Ok x) P Q weaker known = known
 on_err (Err e) P Q weaker known = weaker known
 
+pub on_both : {X E : Type 0} (r : Result X E) (P Q R : Type 0) → (P → Q → R) → OnErr r P → OnErr r Q → OnErr r R
+on_both (Ok x) P Q R weaker one other = one
+on_both (Err e) P Q R weaker one other = weaker one other
+
 -- a commit that moves no frames of tables
 module _ {A : Type 0} (at : ℕ) (e : Event A) (via : Option FrameNo) (old new : State A) (answer : Reply)
     (taken given : List FrameNo) (no_taken : taken ≡ []) (no_given : given ≡ []) (makes : (w : World)
@@ -97,6 +101,9 @@ module _ {A : Type 0} (at : ℕ) (e f : Event A) (via : Option FrameNo) (s : Sta
 pub takes_as : {A : Type 0} (s : State A) (e f : Event A) → e ≡ f
     → IsTrue (takes_memory (seen s) f) → IsTrue (takes_memory (seen s) e)
 takes_as s e f same takes = subst (λ (x : Event _). IsTrue (takes_memory (seen s) x)) (sym same) takes
+
+pub lack_as : {A : Type 0} (w : World) (e f : Event A) → e ≡ f → IsTrue (may_lack w f) → IsTrue (may_lack w e)
+lack_as w e f same lacks = subst (λ (x : Event _). IsTrue (may_lack w x)) (sym same) lacks
 
 -- of a world that is shown
 pub takes_in : {A : Type 0} (w : World) (s : State A) → Shows w s

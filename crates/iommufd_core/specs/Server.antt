@@ -1,12 +1,15 @@
 -- What a core is seen as.
-use Rattle.std.specs.Prelude.{◌≡◌, ◌<◌, ◌⊎◌, ℕ, Bool, true, false, None, IsTrue, length, nat_lt}
+use Rattle.std.specs.Prelude.{◌≡◌, ◌<◌, ◌⊎◌, ℕ, Bool, true, false, ◌&&◌, not, None, IsTrue, length, nat_lt}
 use Rattle.iofd_words.specs.Allowed.{ranges_of}
 use Rattle.iofd_refusals.specs.Checks.{refusal}
+use Rattle.iofd_steps.specs.Answers.{waits}
 use Rattle.iofd_words.specs.Objects.{has_hwpt}
 use Rattle.iofd_words.specs.View.{View, view}
+use Rattle.iofd_words.specs.World.{World}
 use Rattle.iofd_words.specs.declared.event.Event.{Event}
 use Rattle.iofd_words.specs.declared.event.Event.TheVariants as event
 use Rattle.event_device_access.specs.Tracked.{tracks_writes_of}
+use Rattle.event_unmap.specs.Lost.{loses_table}
 use Rattle.hwpt_device_attach.specs.Attaching.{takes_its_table}
 use Rattle.iommufd_core.specs.History.{History, world}
 use Rattle.server_state.specs.Tables.{has_page_table, has_page_tables}
@@ -46,6 +49,11 @@ takes_memory v (event.AccessWrite file id iova bytes) = false
 takes_memory v (event.DirtyEnable file hwpt on) = on
 takes_memory v (event.DirtyClear file request) = false
 
+-- and of UNMAPs those alone that don't wait and by which some table goes: no other one has frames to list
+abbrev pub may_lack : {A : Type 0} → World → Event A → Bool
+may_lack w (event.Unmap file request) = not (waits w file request) && loses_table w file request
+may_lack w e = true
+
 -- the events of which none ever does
 abbrev pub is_in_place : {A : Type 0} → Event A → Bool
 is_in_place (event.UserUnmap user va) = true
@@ -60,9 +68,10 @@ is_in_place (event.DirtyClear file request) = true
 is_in_place e = false
 
 -- the only time at which memory may be wanting: there is no place for the record, or for the list that the event
--- carries, or nothing refuses the event and it is one that may take memory
+-- carries, or nothing refuses the event and it is one that may take memory, in this world
 abbrev pub MayWant : {A : Type 0} → Server A → Event A → Type 0
 MayWant s e =
     ((s.room ≡ 0) ⊎ (0 < length (ranges_of e)))
     ⊎ ((refusal (world s.history) e ≡ None)
-    × IsTrue (takes_memory (view (world s.history)) e))
+    × IsTrue (takes_memory (view (world s.history)) e)
+    × IsTrue (may_lack (world s.history) e))

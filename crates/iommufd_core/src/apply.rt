@@ -95,7 +95,8 @@ impl<A: Allocator + Copy> Core<A> {
             → IsChosen (world self.old.history) act.now.event act.now.via stamp.reply) }
 
         // Want of memory comes only where the record has no place, to an event that carries a list, or to one that
-        // nothing refuses and by which something comes, tables may go or a page is marked. It changes nothing.
+        // nothing refuses and by which something comes, tables may go or a page is marked; to an UNMAP only where it
+        // doesn't wait and some table goes. It changes nothing.
         ensures memory { OnErr result (MayWant self.old act.now.event) }
         ensures unchanged { OnErr result (self.new.history ≡ self.old.history) }
     {

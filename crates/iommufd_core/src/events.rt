@@ -1,11 +1,15 @@
 //! Each event, refused or carried out.
 
-ghost use Rattle.std.specs.Prelude.{◌≡◌, true, None, [], IfOk, IsTrue, OnErr};
+ghost use Rattle.std.specs.Prelude.{◌≡◌, ℕ, true, None, [], IfOk, IsTrue, OnErr};
 ghost use Rattle.iofd_refusals.specs.Checks.{checks};
 ghost use Rattle.iofd_words.specs.FirstTrue.{first_true};
+ghost use Rattle.iofd_words.specs.View.{view};
+ghost use Rattle.iofd_words.specs.World.{World};
 ghost use Rattle.server_state.specs.Seen.{seen};
-ghost use Rattle.iommufd_core.specs.Server.{is_in_place, takes_memory};
-ghost use Rattle.server_state.specs.Step.{Answered, IsCalled, IsGrantedFor, IsKnown, MovingSteps, TidyShowsSame};
+ghost use Rattle.server_state.specs.Shows.{Shows};
+ghost use Rattle.iommufd_core.specs.Server.{is_in_place, may_lack, takes_memory};
+ghost use Rattle.server_state.specs.Step.{Answered, IsCalled, IsGrantedFor, IsKnown, IsTidy, MovingSteps};
+ghost use Rattle.server_state.specs.Step.{TidyShowsSame};
 
 use access_pins::{
     attach as access_attach, create, detach as access_detach, pin as access_pin,
@@ -45,6 +49,8 @@ pub(crate) fn answer<A: Allocator + Copy>(
     ensures err { OnErr result (TidyShowsSame at state.old state.new) }
     ensures memory { OnErr result ((first_true (checks (seen state.old) act.now.event) ≡ None)
         × IsTrue (takes_memory (seen state.old) act.now.event)) }
+    ensures lacking { OnErr result ((at : ℕ) (w : World) → IsTidy at w → Shows w state.old →
+        first_true (checks (view w) act.now.event) ≡ None → IsTrue (may_lack w act.now.event)) }
 {
     match refusal(state, &act.event) {
         Some(cause) => Ok(Reply::Refused(Refusal { cause })),
@@ -108,6 +114,8 @@ fn commit<A: Allocator + Copy>(
         MovingSteps at act.now.event act.now.via state.old reply taken.new.items given.new.items state.new) }
     ensures err { OnErr result (TidyShowsSame at state.old state.new) }
     ensures memory { OnErr result (IsTrue (takes_memory (seen state.old) act.now.event)) }
+    ensures lacking { OnErr result ((at : ℕ) (w : World) → IsTidy at w → Shows w state.old →
+        first_true (checks (view w) act.now.event) ≡ None → IsTrue (may_lack w act.now.event)) }
 {
     match &act.event {
         Event::IoasAlloc(file) => ioas_alloc::commit(state, *file),

@@ -13,7 +13,7 @@ use Rattle.iofd_words.specs.declared.reply.Reply.TheVariants as reply
 use Rattle.iofd_words.specs.declared.rows.Area.{Area}
 use Rattle.event_unmap.proofs.AreasToClear.{can_clear_within}
 use Rattle.event_unmap.proofs.OwnAreas.{own_are}
-use Rattle.event_unmap.proofs.TablesLeave.{can_count, can_give, given_back}
+use Rattle.event_unmap.proofs.TablesLeave.{can_count, can_give, given_back, loses_one}
 use Rattle.event_unmap.proofs.Unmapped.{attached_is, bytes_fit, bytes_shown, errno_shown, may_remove, names_span}
 use Rattle.event_unmap.proofs.Unmapped.{shows_pending, shows_removed, tables_left, unmapped_covered, unmapped_pins}
 use Rattle.event_unmap.proofs.Unmapped.{waits_shown}
@@ -212,3 +212,14 @@ returns-in_err-reserve_given-clause-pending g c =
     waits_shown at w c.args.state.now c.args.file c.args.request tidy shows none kept
     c.in-Some.span c.in-Some-attached_to.attached c.in-Some.ensures.value devices
     ∙ sym told ∙ c.in_err-reserve_given.ensures.pending)
+
+-- and only where some table goes
+pub returns-in_err-reserve_given-clause-tables : goal.returns-in_err-reserve_given-clause-tables
+returns-in_err-reserve_given-clause-tables g c =
+    let own = own_are c.args.state.now _ c.requires.granted c.args.file c.args.request.ioas _
+    c.in-Some-areas_of.ensures.1 in
+    let kept = subst AreKept (sym own) c.within.ensures.kept in
+    let lacking = rw (← own) at c.in_err-reserve_given.ensures.lacking in
+    on_err_same c.from_residual.result _ (λ at w tidy shows none.
+    loses_one at w c.args.state.now c.args.file c.args.request tidy shows none kept c.in-Some.span
+    c.in-Some.ensures.value lacking)

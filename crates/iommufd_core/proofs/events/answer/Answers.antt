@@ -37,6 +37,9 @@ pub returns-in-None-clause-memory : goal.returns-in-None-clause-memory
 returns-in-None-clause-memory g c =
     on_err c.commit.result _ _ (λ takes. (sym c.refusal.ensures ∙ c.in-None.is, takes)) c.commit.ensures.memory
 
+pub returns-in-None-clause-lacking : goal.returns-in-None-clause-lacking
+returns-in-None-clause-lacking g c = c.commit.ensures.lacking
+
 pub commit-requires-clause-granted : goal.commit-requires-clause-granted
 commit-requires-clause-granted g c =
     let called = c.requires.called in

@@ -1,4 +1,5 @@
-use Rattle.std.proofs.Common.{◌≡◌, length, inl, inr, refl, ◌∙◌, ap, subst, sym, arith, vec_capacity, vec_len}
+use Rattle.std.proofs.Common.{◌≡◌, None, length, inl, inr, refl, ◌∙◌, ap, subst, sym, arith, vec_capacity, vec_len}
+use Rattle.iofd_refusals.specs.Checks.{refusal}
 use Rattle.iofd_steps.specs.Run.{world_of}
 use Rattle.iommufd_core.proofs.Applied.{may_use, unchanged_config, unchanged_kept, applied_chosen, applied_config}
 use Rattle.iommufd_core.proofs.Applied.{applied_frames, applied_kept}
@@ -113,10 +114,14 @@ returns-in_default-answer-clause-memory g c =
     let records = c.self.inside.records.items in
     let tidy = tidy_run old.config records c.self.invariant.run c.self.invariant.used in
     let wants = c.in_default-answer.ensures.memory in
+    let none : refusal (world_of old.config records) c.args.act.now.event ≡ None =
+    sym (same_refusal (world_of old.config records) old c.self.invariant.shows tidy.tabled.owned
+    c.args.act.now.event) ∙ wants.0 in
     rw (← c.self.view_is) (inr (
-      sym (same_refusal (world_of old.config records) old c.self.invariant.shows tidy.tabled.owned
-          c.args.act.now.event) ∙ wants.0,
+      none,
       takes_in (world_of old.config records) old c.self.invariant.shows tidy.tabled.owned c.args.act.now.event wants.1,
+      c.in_default-answer.ensures.lacking (length records) (world_of old.config records) tidy c.self.invariant.shows
+          none,
     ))
 
 pub answer-requires-clause-called : goal.answer-requires-clause-called
