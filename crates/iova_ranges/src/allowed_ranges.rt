@@ -132,7 +132,8 @@ fn add_range<A: Allocator>(set: &mut RangeSet<A>, range: IovaRange) -> Result<()
 }
 
 /// The allowed ranges of all address spaces that have any. A contract sees the rows, of which the ranges of an address
-/// space are asked, and for how many more of them there is memory.
+/// space are asked, and for how many more of them there is memory. What it has taken it keeps: rows and room together
+/// never get fewer.
 #[derive(Drop)]
 pub struct AllowedTable<A: Allocator = Global> {
     rows: Vec<AllowedRow<A>, A>,
@@ -186,7 +187,7 @@ impl<A: Allocator> AllowedTable<A> {
         ensures memory { OnErr result (find (is_allowed_in row.file row.ioas) self.old.rows ≡ None) }
         ensures full { OnErr result (self.old.room ≡ 0) }
         ensures err { OnErr result (self.new ≡ self.old) }
-        ensures room { self.old.room ≤ self.new.room + 1 }
+        ensures room { length self.old.rows + self.old.room ≤ length self.new.rows + self.new.room }
     {
         reserve_for(&mut self.rows, row.file, row.ioas)?;
         put(&mut self.rows, row);
@@ -196,7 +197,7 @@ impl<A: Allocator> AllowedTable<A> {
     /// Takes away the row of this address space, if it has one. It takes no memory.
     pub fn remove(&mut self, file: FileNo, ioas: ObjId)
         ensures rows { self.new.rows ≡ without_allowed file ioas self.old.rows }
-        ensures room { self.old.room ≤ self.new.room }
+        ensures room { length self.old.rows + self.old.room ≤ length self.new.rows + self.new.room }
     {
         take_away(&mut self.rows, file, ioas);
     }
@@ -204,7 +205,7 @@ impl<A: Allocator> AllowedTable<A> {
     /// Takes away the rows of this file's address spaces. It takes no memory.
     pub fn remove_file(&mut self, file: FileNo)
         ensures rows { self.new.rows ≡ filter (λ row. not (row.file.0 == file.0)) self.old.rows }
-        ensures room { self.old.room ≤ self.new.room }
+        ensures room { length self.old.rows + self.old.room ≤ length self.new.rows + self.new.room }
     {
         self.rows.retain(|row| !row.is_of(file));
     }
