@@ -1,2 +1,2 @@
-mod Configs
+mod InLimits
 mod Rows

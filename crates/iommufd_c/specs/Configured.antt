@@ -1,14 +1,13 @@
 -- The settings that a C program asks for.
-use Rattle.std.specs.Prelude.{◌≡◌, ◌⊎◌, ◌==◌, ◌&&◌, ◌||◌, ℕ, nat_le, Bool, true, false, not, List, length, filter, map}
-use Rattle.std.specs.Prelude.{Some, None, Result, Ok, Err, if◌then◌else◌}
+use Rattle.std.specs.Prelude.{◌==◌, ◌&&◌, ◌||◌, ℕ, nat_le, Bool, not, List, length, filter, map}
+use Rattle.std.specs.Prelude.{is_none, if◌then◌else◌}
 use Rattle.std.specs.List.{enumerate_from, list_all}
 use Rattle.iofd_words.specs.Bounds.{Bounds}
 use Rattle.iofd_words.specs.Limits.{first_outside}
 use Rattle.iofd_words.specs.Settings.{DeviceSettings, Settings, is_between}
-use Rattle.iofd_words.specs.declared.config.ConfigError.{ConfigError}
-use Rattle.iofd_words.specs.declared.config.ConfigError.TheVariants as error
 use Rattle.iofd_words.specs.declared.numbers.UserNo.{UserNo}
 use Rattle.iofd_words.specs.declared.width.Width.TheVariants.{Bits39, Bits48, Bits57}
+use Rattle.shared_iommufd.specs.Limits as server
 use Rattle.iommufd_c.specs.declared.configuring.DeviceRow.{DeviceRow}
 use Rattle.iommufd_c.specs.declared.reserving.ReservedRow.{ReservedRow}
 
@@ -27,9 +26,13 @@ are_rows devices reserved = list_all is_row devices && list_all (is_reserved_row
 abbrev pub span_of : ReservedRow → Bounds
 span_of row = record { first = row.first; last = row.last }
 
--- the spans of the rows that name this device, in the order of the rows
+-- the rows that name this device
+abbrev pub rows_for : List ReservedRow → ℕ → List ReservedRow
+rows_for rows device = filter (λ row. row.device == device) rows
+
+-- their spans, in the order of the rows
 abbrev pub reserved_for : List ReservedRow → ℕ → List Bounds
-reserved_for rows device = map span_of (filter (λ row. row.device == device) rows)
+reserved_for rows device = map span_of (rows_for rows device)
 
 -- the device of the row, with these reserved spans
 abbrev pub device_settings : DeviceRow → List Bounds → DeviceSettings
@@ -57,8 +60,8 @@ settings_of_rows pool users files devices reserved passes = record {
   passes = passes;
 }
 
--- the settings, where the rows are such and they are within the limits; or why not, or that memory was wanting
-abbrev pub IsConfigured : Bool → Settings → Result Settings ConfigError → Type 0
-IsConfigured false settings result = result ≡ Err error.Devices
-IsConfigured true settings (Ok config) = (config ≡ settings) × (first_outside settings ≡ None)
-IsConfigured true settings (Err e) = (e ≡ error.Memory) ⊎ (first_outside settings ≡ Some e)
+-- Nothing that a server is opened with is outside its limits: each device's width is one that there is, and each
+-- reserved row a span of a device; the settings; the lanes, and the pages of a port's cache.
+abbrev pub are_in_limits : Bool → Settings → ℕ → ℕ → Bool
+are_in_limits are_rows settings lanes cache =
+    are_rows && is_none (first_outside settings) && is_none (server.first_outside lanes cache)

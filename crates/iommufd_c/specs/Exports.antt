@@ -3,11 +3,9 @@ use Rattle.std.specs.Prelude.{◌≡◌, ◌⊎◌, ◌<◌, ◌≤◌, ℕ, ℤ
 use Rattle.std.specs.Prelude.{Option, Some, None, Result, Ok, Err, Vec, ◌==◌, if◌then◌else◌}
 use Rattle.std.specs.declared.alloc.Global.{Global}
 use Rattle.iofd_words.specs.Bounds.{Bounds}
-use Rattle.iofd_words.specs.Limits.{first_outside}
 use Rattle.iofd_words.specs.Rights.{has_right}
 use Rattle.iofd_words.specs.Settings.{Settings}
 use Rattle.iofd_words.specs.declared.call_error.CallError.{CallError}
-use Rattle.iofd_words.specs.declared.config.ConfigError.{ConfigError}
 use Rattle.iofd_words.specs.declared.event.Event.{Event}
 use Rattle.iofd_words.specs.declared.fault.AccessKind.{AccessKind}
 use Rattle.iofd_words.specs.declared.fault.AccessKind.TheVariants as kind
@@ -31,6 +29,7 @@ use Rattle.server_handle.specs.declared.device.Access.{Access}
 use Rattle.server_handle.specs.declared.error.GiveError.{GiveError}
 use Rattle.server_handle.specs.declared.error.OpenError.{OpenError}
 use Rattle.server_handle.specs.declared.turn.Turn.{Turn}
+use Rattle.iommufd_c.specs.Configured.{are_in_limits}
 use Rattle.iommufd_c.specs.Outcomes as tells
 use Rattle.iommufd_c.specs.Statuses as says
 use Rattle.iommufd_c.specs.declared.outcome.Outcome.{Outcome}
@@ -195,16 +194,17 @@ pub record IsTranslated (address : ℕ) (right : AccessKind) (before : Option Cl
   pub put : new ≡ translation_told old told
 
 -- A server was opened, or why not; or the handle is open, and nothing else is asked; or what was asked for is outside
--- the limits, or there was no memory to ask, though each device's width is one that there is, and each reserved row a
--- span of a device. But for the first the handle is as it was.
+-- the limits; or there was no memory to ask a server for it, though nothing is outside them. But for the first the
+-- handle is as it was.
 abbrev pub IsOpened : Bool → Settings → ℕ → ℕ → Option Client → ℤ → Option Client → Type 0
 IsOpened are_rows settings lanes cache before status after =
     ((told : Result (Unit {0}) OpenError) × Opens before settings lanes cache told after
-    × (status ≡ says.open_status told) × (are_rows ≡ true) × (first_outside settings ≡ None))
+    × (status ≡ says.open_status told) × (are_in_limits are_rows settings lanes cache ≡ true))
     ⊎ ((status ≡ says.open_already) × (before ≡ None → ⊥) × (after ≡ before))
-    ⊎ ((status ≡ says.outside) × ((are_rows ≡ false) ⊎ ((e : ConfigError) × (first_outside settings ≡ Some e)))
-    × (before ≡ None) × (after ≡ before))
-    ⊎ ((status ≡ says.no_memory) × (are_rows ≡ true) × (before ≡ None) × (after ≡ before))
+    ⊎ ((status ≡ says.outside) × (are_in_limits are_rows settings lanes cache ≡ false) × (before ≡ None)
+    × (after ≡ before))
+    ⊎ ((status ≡ says.no_memory) × (are_in_limits are_rows settings lanes cache ≡ true) × (before ≡ None)
+    × (after ≡ before))
 
 -- another caller's handle was opened
 pub record IsShared (before other : Option Client) (status : ℤ) (after now : Option Client) : Type 0 where

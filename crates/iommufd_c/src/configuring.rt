@@ -1,12 +1,11 @@
 //! The configuration of a server, from the arrays of a C program.
 
-ghost use Rattle.std.specs.Prelude.{◌≡◌, ◌≤◌, All, IfOk, map};
-ghost use Rattle.std.specs.List.{list_all};
-ghost use Rattle.iommufd_c.specs.Configured.{IsConfigured, are_rows, device_settings, devices_of_rows, is_row};
-ghost use Rattle.iommufd_c.specs.Configured.{settings_of_rows, user_of};
+ghost use Rattle.std.specs.Prelude.{◌≡◌, ◌≤◌, All, IfOk, None, map, true};
+ghost use Rattle.iofd_words.specs.Limits.{first_outside};
+ghost use Rattle.iommufd_c.specs.Configured.{are_rows, device_settings, devices_of_rows, settings_of_rows, user_of};
 
-use crate::reserving::{ReservedRow, are_reserved_rows, reserved_for};
-use iofd_words::{Config, ConfigError, DeviceConfig, NoMemory, SourceId, SpanList, UserNo, Width};
+use crate::reserving::{ReservedRow, reserved_for};
+use iofd_words::{Config, DeviceConfig, NoMemory, SourceId, SpanList, UserNo, Width};
 use std::alloc::Global;
 
 /// A device of a configuration (`struct defnulk_device`).
@@ -19,13 +18,6 @@ pub struct DeviceRow {
     pub width: u8,
     /// Whether it has the interrupt range of x86: not 0.
     pub x86: u8,
-}
-
-// Whether each row's width is one that there is.
-fn are_device_rows(rows: &[DeviceRow]) -> bool
-    ensures { result ≡ list_all is_row rows.now }
-{
-    rows.iter().all(|row| row.width == 39 || row.width == 48 || row.width == 57)
 }
 
 // The device of a row, with these reserved spans.
@@ -75,8 +67,7 @@ fn limits_of(alloc: Global, limits: &[u64]) -> Result<Vec<u64>, NoMemory>
     Ok(Vec::from_slice(alloc, limits)?)
 }
 
-/// The configuration of these arrays. The error is Devices where a row's width is none, or a reserved span is none of one
-/// of the devices, and else that of `Config::new`, or that memory was wanting.
+/// The configuration of these arrays, which are within its limits. The error is that memory was wanting.
 pub(crate) fn config_of(
     alloc: Global,
     pool: u32,
@@ -85,19 +76,17 @@ pub(crate) fn config_of(
     devices: &[DeviceRow],
     reserved: &[ReservedRow],
     passes: u16,
-) -> Result<Config, ConfigError>
-    ensures { IsConfigured (are_rows devices.now reserved.now)
-        (settings_of_rows pool users.now files.now devices.now reserved.now passes) result }
+) -> Result<Config, NoMemory>
+    requires rows { are_rows devices.now reserved.now ≡ true }
+    requires within { first_outside (settings_of_rows pool users.now files.now devices.now reserved.now passes) ≡ None }
+    ensures { IfOk result (λ config.
+        config ≡ settings_of_rows pool users.now files.now devices.now reserved.now passes) }
 {
-    if !are_device_rows(devices) || !are_reserved_rows(reserved, devices.len()) {
-        return Err(ConfigError::Devices);
-    }
-    match (
-        limits_of(alloc, users),
-        files_of(alloc, files),
-        devices_of(alloc, devices, reserved),
-    ) {
-        (Ok(users), Ok(files), Ok(devices)) => Config::new(pool, users, files, devices, passes),
-        _ => Err(ConfigError::Memory),
-    }
+    let users = limits_of(alloc, users)?;
+    let files = files_of(alloc, files)?;
+    let devices = devices_of(alloc, devices, reserved)?;
+    let Ok(config) = Config::new(pool, users, files, devices, passes) else {
+        unreachable!()
+    };
+    Ok(config)
 }

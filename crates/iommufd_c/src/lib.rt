@@ -5,6 +5,7 @@
 mod callers;
 mod configuring;
 mod events;
+mod limits;
 mod opening;
 mod outcome;
 mod ports;

@@ -6,9 +6,9 @@ ghost use Rattle.iommufd_c.specs.Exports.{IsOpened, IsPortGiven, IsShared};
 ghost use Rattle.iommufd_c.specs.Statuses as spec;
 
 use crate::configuring::{DeviceRow, config_of};
+use crate::limits::{are_settings_in_limits, is_server_in_limits};
 use crate::reserving::ReservedRow;
 use crate::status::{DONE, EBADF, EBUSY, EINVAL, ENOMEM, give_status, open_status};
-use iofd_words::ConfigError;
 use server_handle::Handle;
 use std::alloc::Global;
 
@@ -32,14 +32,19 @@ pub extern "C" fn defnulk_raw_open(
         (settings_of_rows pool users.now files.now devices.now reserved.now passes) lanes cache handle.old.client
         result handle.new.client }
 {
-    // It is asked first, so that who opens a handle twice is never told that there is no memory.
+    // Both are asked before anything is copied: whoever opens a handle twice, or asks for what there is no server of, is
+    // never told that there is no memory.
     if handle.is_open(alloc) {
         return EBUSY;
     }
+    if !are_settings_in_limits(pool, users, files, devices, reserved, passes)
+        || !is_server_in_limits(lanes, cache)
+    {
+        return EINVAL;
+    }
     match config_of(alloc, pool, users, files, devices, reserved, passes) {
         Ok(config) => open_status(&handle.open(alloc, &config, lanes, cache)),
-        Err(ConfigError::Memory) => ENOMEM,
-        Err(_) => EINVAL,
+        Err(_) => ENOMEM,
     }
 }
 

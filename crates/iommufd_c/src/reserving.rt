@@ -1,8 +1,7 @@
 //! The reserved spans of a configuration's devices, from an array of a C program.
 
 ghost use Rattle.std.specs.Prelude.{◌≡◌, ◌≤◌, All, IfOk};
-ghost use Rattle.std.specs.List.{list_all};
-ghost use Rattle.iommufd_c.specs.Configured.{is_reserved_row, reserved_for, span_of};
+ghost use Rattle.iommufd_c.specs.Configured.{reserved_for, span_of};
 
 use iofd_words::{NoMemory, Span, SpanList};
 use std::alloc::Global;
@@ -19,17 +18,8 @@ pub struct ReservedRow {
     pub device: u16,
 }
 
-/// Whether each row is a span of one of so many devices.
-pub(crate) fn are_reserved_rows(rows: &[ReservedRow], devices: usize) -> bool
-    ensures { result ≡ list_all (is_reserved_row devices) rows.now }
-{
-    rows.iter().all(|row| {
-        row.device >= 1 && usize::from(row.device) <= devices && row.first <= row.last
-    })
-}
-
-// The span of a row.
-fn span_of(row: &ReservedRow) -> Span
+/// The span of a row.
+pub(crate) fn span_of(row: &ReservedRow) -> Span
     requires { row.now.first ≤ row.now.last }
     ensures { result ≡ span_of row.now }
 {
