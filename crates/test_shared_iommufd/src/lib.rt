@@ -9,6 +9,8 @@ mod journals;
 #[cfg(test)]
 mod lines;
 #[cfg(test)]
+mod mapped;
+#[cfg(test)]
 mod opened;
 #[cfg(test)]
 mod ports;

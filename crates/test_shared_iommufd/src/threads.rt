@@ -1,107 +1,63 @@
-//! Four passes in threads of their own make each record once.
+//! Passes in four threads of their own make each record once.
 
-ghost use Rattle.std.specs.Prelude.{◌≡◌, false};
-ghost use Rattle.guarded_core.specs.OfPort.{event_of_port};
-ghost use Rattle.shared_iommufd.specs.Servers.{ArePassesOf, IsPassOf};
+ghost use Rattle.std.specs.Prelude.{◌≡◌};
+ghost use Rattle.shared_iommufd.specs.Servers.{ArePassesOf};
 
-use crate::opened::{closed, opened};
-use crate::rows::count_records;
-use iofd_words::{Act, Event, PassNo, Record, UserNo};
+use crate::mapped::ready;
+use crate::opened::closed;
+use crate::work::{PAGES, Task, byte_of, crowd, page_of, va_of};
+use iofd_words::{Event, PassNo, Record};
 use shared_iommufd::{CloseError, Core, Pass, Server};
 use std::alloc::Global;
 use std::sync::Wait;
-use std::thread::{Threads, for_each_mut};
+use std::thread::Threads;
 
-const STEPS: u32 = 100;
+const THREADS: u8 = 4;
 
-const USER: UserNo = UserNo(1);
+// How many operations each makes. Of 20 the last is a call, the others are looks.
+const COUNT: u32 = 2000;
 
-// Where the user has the page of a pass.
-fn va_of(pass: PassNo) -> u64 {
-    0x10000 + u64::from(pass.0) * 0x1000
-}
+const CALLS: usize = 100;
 
-// The user gets the pass's page, and gives it up again.
-fn event(pass: PassNo, step: u32) -> Event
-    ensures { event_of_port result ≡ false }
-{
-    if step % 2 == 0 {
-        Event::UserMap(USER, va_of(pass))
-    } else {
-        Event::UserUnmap(USER, va_of(pass))
-    }
-}
+// The passes of four threads.
+static WORKERS: [PassNo; 4] = [PassNo(4), PassNo(13), PassNo(22), PassNo(31)];
 
-// Makes the pass's own steps, and looks after each.
-fn work<R: Wait>(rt: &R, server: &Server, pass: &mut Pass)
-    requires { IsPassOf server.now pass.old }
-    ensures { IsPassOf server.now pass.new }
-{
-    let number = pass.number();
-    for step in 0..STEPS {
-        let act = Act {
-            event: event(number, step),
-            via: None,
-        };
-        let _stamp = server.call(rt, pass, &act);
-        let _count = count_records(rt, server, pass);
-    }
-}
-
-// The passes work at once, in four threads.
-fn four_work<R: Threads + Wait + Sync>(rt: &R, server: &Server, passes: &mut [Pass])
-    requires { ArePassesOf server.now passes.old }
-    ensures { ArePassesOf server.now passes.new }
-{
-    for_each_mut(
-        rt,
-        passes,
-        4,
-        &|_, pass: &mut Pass|
-            requires { IsPassOf server.now pass.now }
-            ensures { IsPassOf server.entry.now pass.exit.now }
-        { work(rt, server, pass) },
-    );
-}
-
-// The same, of a list.
-fn all_work<R: Threads + Wait + Sync>(rt: &R, server: &Server, passes: &mut Vec<Pass>)
+// The passes look and call at once, each at a page of its own.
+fn work<R: Threads + Wait + Sync>(rt: &R, server: &Server, passes: &mut Vec<Pass>) -> u64
     requires { ArePassesOf server.now passes.old.items }
     ensures { ArePassesOf server.now passes.new.items }
 {
-    four_work(rt, server, passes);
+    crowd(rt, server, None, passes, THREADS, &Task::Both, COUNT)
 }
 
-// Whether the record is the pass's own at this step.
-fn is_step(record: &Record, pass: PassNo, step: u32) -> bool {
+// Whether the record is the pass's call, as its operation of this number.
+fn is_call(record: &Record, pass: PassNo, number: u32) -> bool {
     match &record.event {
-        Event::UserMap(_, va) => *va == va_of(pass) && step % 2 == 0,
-        Event::UserUnmap(_, va) => *va == va_of(pass) && step % 2 == 1,
+        Event::UserWrite(_, va, bytes) => {
+            *va == va_of(page_of(pass)) && bytes.as_slice().first() == Some(&byte_of(number))
+        }
         _ => false,
     }
 }
 
-// Whether the records of the pass are its steps, in their order.
-fn has_steps(records: &[Record], pass: PassNo) -> bool {
-    let mut step = 0;
+// Whether the records of the pass are its calls, in their order.
+fn has_calls(records: &[Record], pass: PassNo) -> bool {
+    let mut number = 19;
     for record in records {
         if record.pass == pass {
-            if step >= STEPS || !is_step(record, pass, step) {
+            if number >= COUNT || !is_call(record, pass, number) {
                 return false;
             }
-            step += 1;
+            number += 20;
         }
     }
-    step == STEPS
+    number == COUNT + 19
 }
 
-// Whether these are the steps of four passes.
+// Whether these are the calls of four passes, behind those by which the pages were mapped.
 fn are_of_four(records: &[Record]) -> bool {
-    records.len() == 400
-        && has_steps(records, PassNo(0))
-        && has_steps(records, PassNo(1))
-        && has_steps(records, PassNo(2))
-        && has_steps(records, PassNo(3))
+    records.len() == PAGES as usize + 3 + WORKERS.len() * CALLS
+        && WORKERS.iter().all(|pass| has_calls(records, *pass))
 }
 
 // Whether a server ends with them.
@@ -113,10 +69,10 @@ fn ends(closed: Result<Core, CloseError>) -> bool {
 }
 
 fn happens<R: Threads + Wait + Sync>(rt: &R, global: Global) -> bool {
-    match opened(global, 4) {
+    match ready(rt, global, THREADS, 1) {
         Some((server, _key, mut passes)) => {
-            all_work(rt, &server, &mut passes);
-            ends(closed(server, passes))
+            let passed = work(rt, &server, &mut passes);
+            passed == u64::from(THREADS) * u64::from(COUNT) && ends(closed(server, passes))
         }
         None => false,
     }

@@ -10,15 +10,13 @@
 //! a core of the same history under std's lock. The nanoseconds are those of one thread: where threads don't disturb
 //! each other they are the same for any number of threads.
 
-ghost use Rattle.std.specs.Prelude.{◌<◌, IfSome};
+ghost use Rattle.std.specs.Prelude.{◌<◌};
 ghost use Rattle.shared_iommufd.specs.Ports.{IsKeyOf};
-ghost use Rattle.shared_iommufd.specs.Servers.{ArePassesOf, IsPassOf};
+ghost use Rattle.shared_iommufd.specs.Servers.{ArePassesOf};
 
-use crate::opened::{closed, config, last_pass, opened_with, put_last};
-use crate::ports::is_answered;
-use crate::rows::are_rows;
-use crate::work::{APART, PAGES, Task, USER, crowd, port_reads, va_of};
-use iofd_words::{Act, Event, FrameNo, Reply};
+use crate::mapped::ready;
+use crate::opened::closed;
+use crate::work::{Task, crowd, port_reads};
 use shared_iommufd::{Core, Pass, PortKey, Server};
 use std::alloc::Global;
 use std::sync::{RwLock, Wait};
@@ -55,59 +53,6 @@ static ROWS: [Row; 10] = [
 
 const TRIES: u32 = 5;
 
-// All pages are mapped, and the device is bound.
-const MAPPED: &str = "\
-1 ioctl 1 3b81 0c0000000000000000000000 = 0 0c0000000000000001000000
-1 ioctl 1 3b85 28000000070000000100000000000000000001000000000000000400000000000000010000000000 \
-= 0 28000000070000000100000000000000000001000000000000000400000000000000010000000000
-1 bind 1 1 = ok id 2
-";
-
-// Whether the user gets its pages, in the order of the frames.
-fn gets_pages<R: Wait>(rt: &R, server: &Server, pass: &mut Pass) -> bool
-    requires { IsPassOf server.now pass.old }
-    ensures { IsPassOf server.now pass.new }
-{
-    let mut all = true;
-    for page in 0..PAGES {
-        let event = Event::UserMap(USER, va_of(page));
-        let act = Act { event, via: None };
-        all = is_answered(server.call(rt, pass, &act), Reply::Frame(FrameNo(page))) && all;
-    }
-    all
-}
-
-// Whether they are mapped then, by the last of the passes.
-fn is_ready<R: Wait>(rt: &R, global: Global, server: &Server, passes: &mut Vec<Pass>) -> bool
-    requires { ArePassesOf server.now passes.old.items }
-    ensures { ArePassesOf server.now passes.new.items }
-{
-    let Some(mut pass) = last_pass(server, passes) else {
-        return false;
-    };
-    let mapped = gets_pages(rt, server, &mut pass)
-        && are_rows(rt, global, server, &mut pass, MAPPED);
-    put_last(server, passes, pass) && mapped
-}
-
-// A server with four lanes, passes for so many threads, and all pages mapped.
-fn ready<R: Wait>(
-    rt: &R,
-    global: Global,
-    threads: u8,
-    keeps: u16,
-) -> Option<(Server, PortKey, Vec<Pass>)>
-    ensures { IfSome result (λ r. IsKeyOf r.0 r.1 × ArePassesOf r.0 r.2.items) }
-{
-    let config = config(global, 128, u64::from(PAGES), u16::from(threads) * APART)?;
-    let (server, key, mut passes) = opened_with(global, &config, 4, keeps)?;
-    if is_ready(rt, global, &server, &mut passes) {
-        Some((server, key, passes))
-    } else {
-        None
-    }
-}
-
 // The core of such a server, under std's lock.
 fn plain_core<R: Wait>(rt: &R, global: Global) -> Option<RwLock<Core>> {
     let (server, _key, passes) = ready(rt, global, 1, 1)?;
@@ -135,8 +80,8 @@ fn timed<R: Threads + Wait + Sync + Clock>(
     let passed = match place {
         Place::Port(_) => port_reads(rt, server, key, passes, false, count),
         Place::Reopened => port_reads(rt, server, key, passes, true, count),
-        Place::Lanes => crowd(rt, server, None, passes, task, count),
-        Place::Plain => crowd(rt, server, Some(core), passes, task, count),
+        Place::Lanes => crowd(rt, server, None, passes, threads, task, count),
+        Place::Plain => crowd(rt, server, Some(core), passes, threads, task, count),
     };
     let time = start.elapsed(rt).ok()?;
     if passed == u64::from(threads) * u64::from(count) {

@@ -1,6 +1,5 @@
 //! What is timed: a port's reads, and threads that look and call at once.
 
-ghost use Rattle.std.specs.Prelude.{◌<◌, length};
 ghost use Rattle.shared_iommufd.specs.Ports.{IsKeyOf, IsPortOf};
 ghost use Rattle.shared_iommufd.specs.Servers.{ArePassesOf, IsPassOf};
 
@@ -10,7 +9,7 @@ use iofd_words::{Act, Answer, Burst, Event, Iova, PassNo, Query, Reply, UserNo};
 use shared_iommufd::{Core, Pass, Port, PortKey, Server};
 use std::sync::atomic::{AtomicU64, Ordering};
 use std::sync::{RwLock, Wait};
-use std::thread::{Threads, for_each_chunk_mut};
+use std::thread::{Threads, for_each_mut};
 
 /// How many pages the user has. All are mapped for the device.
 pub const PAGES: u32 = 64;
@@ -57,6 +56,65 @@ impl Task {
     }
 }
 
+/// The page of a thread whose passes begin so.
+pub fn page_of(pass: PassNo) -> u32 {
+    u32::from(pass.0 / APART)
+}
+
+/// What a call of this number writes.
+pub fn byte_of(number: u32) -> u8 {
+    (number % 256) as u8
+}
+
+// Whether the operation of this number passes, as a call.
+fn is_made<R: Wait>(
+    rt: &R,
+    server: &Server,
+    plain: Option<&RwLock<Core>>,
+    pass: &mut Pass,
+    va: u64,
+    number: u32,
+) -> bool
+    requires { IsPassOf server.now pass.old }
+    ensures { IsPassOf server.now pass.new }
+{
+    let Some(bytes) = Burst::new(&[byte_of(number); 64]) else {
+        return false;
+    };
+    let act = Act {
+        event: Event::UserWrite(USER, va, bytes),
+        via: None,
+    };
+    let made = match plain {
+        Some(lock) => lock.write(rt).apply(PassNo(0), &act),
+        None => server.call(rt, pass, &act),
+    };
+    is_answered(made, Reply::Done)
+}
+
+// Whether it passes, as a look.
+fn is_told<R: Wait>(
+    rt: &R,
+    server: &Server,
+    plain: Option<&RwLock<Core>>,
+    pass: &mut Pass,
+    va: u64,
+) -> bool
+    requires { IsPassOf server.now pass.old }
+    ensures { IsPassOf server.now pass.new }
+{
+    let query = Query::UserRead {
+        user: USER,
+        va,
+        len: 64,
+    };
+    let answer = match plain {
+        Some(lock) => lock.read(rt).look(&query),
+        None => server.look(rt, pass, &query),
+    };
+    matches!(answer, Answer::Read(_))
+}
+
 // How many operations of one thread pass: at the core under std's lock, where there is one, and else at the server.
 fn one<R: Wait>(
     rt: &R,
@@ -67,57 +125,48 @@ fn one<R: Wait>(
     count: u32,
 ) -> u64
     requires { IsPassOf server.now pass.old }
+    ensures { IsPassOf server.now pass.new }
 {
     let mut passed = 0u64;
-    let Some(bytes) = Burst::new(&[7; 64]) else {
-        return passed;
-    };
-    let own = u32::from(pass.number().0 / APART);
+    let own = page_of(pass.number());
     for number in 0..count {
-        let (user, va, len) = (USER, task.address(own, number), 64);
+        let va = task.address(own, number);
         let is_passed = if task.is_call(number) {
-            let event = Event::UserWrite(user, va, bytes);
-            let act = Act { event, via: None };
-            let made = match plain {
-                Some(lock) => lock.write(rt).apply(PassNo(0), &act),
-                None => server.call(rt, pass, &act),
-            };
-            is_answered(made, Reply::Done)
+            is_made(rt, server, plain, pass, va, number)
         } else {
-            let query = Query::UserRead { user, va, len };
-            let answer = match plain {
-                Some(lock) => lock.read(rt).look(&query),
-                None => server.look(rt, pass, &query),
-            };
-            matches!(answer, Answer::Read(_))
+            is_told(rt, server, plain, pass, va)
         };
         passed = passed.wrapping_add(u64::from(is_passed));
     }
     passed
 }
 
-/// How many operations pass. The passes are cut into stretches, and one pass of each makes so many, all at once, each
-/// in a thread of its own.
+/// How many operations pass. The passes are cut into stretches, and the one in the middle of each makes so many, all at
+/// once, each in a thread of its own, where there are as many threads as stretches.
 pub fn crowd<R: Threads + Wait + Sync>(
     rt: &R,
     server: &Server,
     plain: Option<&RwLock<Core>>,
     passes: &mut [Pass],
+    threads: u8,
     task: &Task,
     count: u32,
 ) -> u64
     requires { ArePassesOf server.now passes.old }
+    ensures { ArePassesOf server.now passes.new }
 {
     let passed = AtomicU64::new(0);
-    for_each_chunk_mut(
+    for_each_mut(
         rt,
         passes,
-        usize::from(APART),
-        &|_, part: &mut [Pass]|
-            requires { (0 < length part.now) × ArePassesOf server.now part.now }
+        usize::from(threads).max(1),
+        &|_, pass: &mut Pass|
+            requires { IsPassOf server.now pass.now }
+            ensures { IsPassOf server.entry.now pass.exit.now }
         {
-            let pass = &mut part[part.len() / 2];
-            passed.fetch_add(one(rt, server, plain, pass, task, count), Ordering::SeqCst);
+            if pass.number().0 % APART == APART / 2 {
+                passed.fetch_add(one(rt, server, plain, pass, task, count), Ordering::SeqCst);
+            }
         },
     );
     passed.load(Ordering::SeqCst)
