@@ -1,5 +1,5 @@
 #!/usr/bin/env python3
-"""Is `rt ci`, with each crate's stamp worked out once, the lowest crate checked by all processors, and the static library
+"""Is `rt ci`, with each crate's stamp worked out once, two crates checked by several processors, and the static library
 built; where the kit's rt is made otherwise, just `rt ci`.
 
 To be run at the top of the repository.
@@ -16,8 +16,13 @@ sys.dont_write_bytecode = True
 import kit
 
 
-def checks_the_lowest_crate_by_all_lanes(rt):
-    """Has the crate on which all others stand checked by as many jobs as there are lanes, since nothing can run beside it.
+# Beside these hardly anything can be proved, so that other lanes would be idle: the lowest crate, on which all others
+# stand, and the server for threads, the last long one on the longest chain. Each with its most jobs, by memory.
+ALONE = {"iofd_words": 4, "shared_iommufd": 3}
+
+
+def checks_some_by_several_lanes(rt):
+    """Has each of these crates checked by as many jobs as there are lanes, up to its most.
 
     Each other check has one job (.ci/run says why).
     """
@@ -25,8 +30,8 @@ def checks_the_lowest_crate_by_all_lanes(rt):
 
     def ci(crate, flags, tests):
         lanes = os.environ.get("RT_JOBS", "")
-        if lanes.isdigit() and not tests and getattr(crate, "deps", None) == []:
-            status = by_one(crate, ["--jobs", lanes], tests)
+        if lanes.isdigit() and not tests and crate.name in ALONE:
+            status = by_one(crate, ["--jobs", str(min(int(lanes), ALONE[crate.name]))], tests)
             if status != -signal.SIGKILL:
                 return status
         return by_one(crate, flags, tests)
@@ -75,7 +80,7 @@ def build(rt, crate, words, checked, library):
 def main():
     try:
         rt = kit.command()
-        checks_the_lowest_crate_by_all_lanes(rt)
+        checks_some_by_several_lanes(rt)
         builds_static_libraries(rt)
     except Exception:
         os.execvp("rt", ["rt", "ci"])
