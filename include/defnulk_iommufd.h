@@ -292,8 +292,9 @@ static inline int32_t defnulk_test(const struct defnulk_handle *handle, const vo
 
 /* Opens a server for a handle that is closed. The handle is then its first caller's: it has one of the server's
    passes, all others to give, and the right to each device's port. -EBUSY: the handle is open, which is asked before
-   all else that a server is asked for. -EINVAL: a number is outside its limits, or a reserved span is of no device or
-   not whole pages. -ENOMEM: nothing of that is so, and there is no memory. With each the handle stays as it was. */
+   all else that a server is asked for. -EINVAL: a number is outside its limits, a file is of no user, a width is none
+   that there is, or a reserved span is of no device or not whole pages. -ENOMEM: nothing of that is so, and there is no
+   memory. With each the handle stays as it was. */
 static inline int32_t defnulk_open(const struct defnulk_config *config, struct defnulk_handle *handle) {
     static const struct defnulk_device none = { 0, 39, 0 };
     static const struct defnulk_reserved no_span = { 0, 4095, 1 };

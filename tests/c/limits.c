@@ -109,6 +109,15 @@ static void test_items(void) {
     devices[0].width = 40;
     test_open(&width, -EINVAL);
     fill_arrays();
+    struct counts widths = { "devices of 48 and 57 bits", 64, 1, 1, 3, 0, 2, 1, 1 };
+    devices[1].width = 48;
+    devices[2].width = 57;
+    test_open(&widths, 0);
+    fill_arrays();
+    struct counts shares = { "17 spans of two devices", 64, 1, 1, 2, 17, 2, 1, 1 };
+    spans[16].device = 2;
+    test_open(&shares, 0);
+    fill_arrays();
     test_span("the last page", UINT64_MAX - PAGE + 1, UINT64_MAX, 1, 0);
     test_span("a span of device 0", 0, PAGE - 1, 0, -EINVAL);
     test_span("a span of device 2", 0, PAGE - 1, 2, -EINVAL);

@@ -77,7 +77,7 @@ fn is_device_in_limits(reserved: &[ReservedRow], device: usize) -> bool
 }
 
 // Whether each device of the rows is within its limits.
-fn are_in_limits(rows: &[DeviceRow], reserved: &[ReservedRow]) -> bool
+fn have_spans_in_limits(rows: &[DeviceRow], reserved: &[ReservedRow]) -> bool
     ensures { result ≡ list_all is_device_in_limits (devices_of_rows reserved.now rows.now) }
 {
     let mut all = true;
@@ -106,7 +106,7 @@ fn are_devices_in_limits(devices: &[DeviceRow], reserved: &[ReservedRow]) -> boo
     ensures { result ≡ (nat_le (length devices.now) 256
         && list_all is_device_in_limits (devices_of_rows reserved.now devices.now)) }
 {
-    devices.len() <= 256 && are_in_limits(devices, reserved)
+    devices.len() <= 256 && have_spans_in_limits(devices, reserved)
 }
 
 /// Whether each row's width is one that there is, each reserved span one of a device, and all of it within the limits

@@ -48,17 +48,18 @@ fn is_ready<R: Wait>(rt: &R, global: Global, server: &Server, passes: &mut Vec<P
     put_last(server, passes, pass) && mapped
 }
 
-/// A server with four lanes, passes for so many threads, and all pages mapped.
+/// A server with so many lanes, passes for so many threads, and all pages mapped.
 pub fn ready<R: Wait>(
     rt: &R,
     global: Global,
     threads: u8,
+    lanes: u16,
     keeps: u16,
 ) -> Option<(Server, PortKey, Vec<Pass>)>
     ensures { IfSome result (λ r. IsKeyOf r.0 r.1 × ArePassesOf r.0 r.2.items) }
 {
     let config = config(global, 128, u64::from(PAGES), u16::from(threads) * APART)?;
-    let (server, key, mut passes) = opened_with(global, &config, 4, keeps)?;
+    let (server, key, mut passes) = opened_with(global, &config, lanes, keeps)?;
     if is_ready(rt, global, &server, &mut passes) {
         Some((server, key, passes))
     } else {

@@ -14,8 +14,11 @@ use std::thread::Threads;
 
 const THREADS: u8 = 4;
 
-// How many operations each makes. Of 20 the last is a call, the others are looks.
-const COUNT: u32 = 2000;
+// Two threads take the same lane.
+const LANES: u16 = 2;
+
+// How many operations each makes, looks and calls in turn.
+const COUNT: u32 = 200;
 
 const CALLS: usize = 100;
 
@@ -27,7 +30,7 @@ fn work<R: Threads + Wait + Sync>(rt: &R, server: &Server, passes: &mut Vec<Pass
     requires { ArePassesOf server.now passes.old.items }
     ensures { ArePassesOf server.now passes.new.items }
 {
-    crowd(rt, server, None, passes, THREADS, &Task::Both, COUNT)
+    crowd(rt, server, None, passes, THREADS, &Task::Halves, COUNT)
 }
 
 // Whether the record is the pass's call, as its operation of this number.
@@ -42,16 +45,16 @@ fn is_call(record: &Record, pass: PassNo, number: u32) -> bool {
 
 // Whether the records of the pass are its calls, in their order.
 fn has_calls(records: &[Record], pass: PassNo) -> bool {
-    let mut number = 19;
+    let mut number = 1;
     for record in records {
         if record.pass == pass {
             if number >= COUNT || !is_call(record, pass, number) {
                 return false;
             }
-            number += 20;
+            number += 2;
         }
     }
-    number == COUNT + 19
+    number == COUNT + 1
 }
 
 // Whether these are the calls of four passes, behind those by which the pages were mapped.
@@ -69,7 +72,7 @@ fn ends(closed: Result<Core, CloseError>) -> bool {
 }
 
 fn happens<R: Threads + Wait + Sync>(rt: &R, global: Global) -> bool {
-    match ready(rt, global, THREADS, 1) {
+    match ready(rt, global, THREADS, LANES, 1) {
         Some((server, _key, mut passes)) => {
             let passed = work(rt, &server, &mut passes);
             passed == u64::from(THREADS) * u64::from(COUNT) && ends(closed(server, passes))

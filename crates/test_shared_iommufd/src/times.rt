@@ -53,9 +53,11 @@ static ROWS: [Row; 10] = [
 
 const TRIES: u32 = 5;
 
+const LANES: u16 = 4;
+
 // The core of such a server, under std's lock.
 fn plain_core<R: Wait>(rt: &R, global: Global) -> Option<RwLock<Core>> {
-    let (server, _key, passes) = ready(rt, global, 1, 1)?;
+    let (server, _key, passes) = ready(rt, global, 1, LANES, 1)?;
     match closed(server, passes) {
         Ok(core) => Some(RwLock::new(core)),
         Err(_) => None,
@@ -104,7 +106,7 @@ fn time<R: Threads + Wait + Sync + Clock>(
         _ => 64,
     };
     let core = plain_core(rt, global)?;
-    let (server, key, mut passes) = ready(rt, global, threads, keeps)?;
+    let (server, key, mut passes) = ready(rt, global, threads, LANES, keeps)?;
     timed(rt, &server, key, &mut passes, &core, row, threads, count)
 }
 

@@ -33,6 +33,8 @@ pub enum Task {
     Looks,
     /// 19 looks to a call, there.
     Both,
+    /// A look to a call, there.
+    Halves,
     /// Calls, there.
     Calls,
 }
@@ -43,6 +45,7 @@ impl Task {
         match self {
             Task::InTurn | Task::Looks => false,
             Task::Both => number % 20 == 19,
+            Task::Halves => number % 2 == 1,
             Task::Calls => true,
         }
     }
@@ -141,8 +144,8 @@ fn one<R: Wait>(
     passed
 }
 
-/// How many operations pass. The passes are cut into stretches, and the one in the middle of each makes so many, all at
-/// once, each in a thread of its own, where there are as many threads as stretches.
+/// How many operations pass. The passes are cut into stretches, and the one in the middle of each makes so many. Where
+/// there are as many threads as stretches, all do so at once, each in a thread of its own, if one can be made.
 pub fn crowd<R: Threads + Wait + Sync>(
     rt: &R,
     server: &Server,

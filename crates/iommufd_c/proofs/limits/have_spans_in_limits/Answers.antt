@@ -1,8 +1,8 @@
 use Rattle.std.proofs.Common.{◌∙◌, ◌&&◌, ◌+◌, sym}
 use Rattle.iommufd_c.specs.declared.configuring.DeviceRow.{DeviceRow}
 use Rattle.iommufd_c.proofs.InLimits.{fits, fits_more}
-use Rattle.iommufd_c.proofs.limits.are_in_limits.Goals as goal
-use Rattle.iommufd_c.proofs.limits.are_in_limits.Goals.{then-all, else-all}
+use Rattle.iommufd_c.proofs.limits.have_spans_in_limits.Goals as goal
+use Rattle.iommufd_c.proofs.limits.have_spans_in_limits.Goals.{then-all, else-all}
 
 pub loop-place-preserved : goal.loop-place-preserved
 loop-place-preserved c =
