@@ -17,44 +17,77 @@ pub and_true : (b : Bool) → (b && true) ≡ b
 and_true true = refl
 and_true false = refl
 
--- ---- 64 pages from any on
+-- ---- the marks of a word, and of 64 pages from any on
 
-same_place : (words : Words) (n k m j : ℕ) → n ≡ m → k ≡ j → has_bit (word_at words n) k ≡ has_bit (word_at words m) j
-same_place words n k m j word_is bit_is =
-    ap (λ i. has_bit (word_at words i) k) word_is ∙ ap (λ i. has_bit (word_at words m) i) bit_is
+-- a word that is cut behind the last page
+pub cut_word : (words : Words) (number last cut w k : ℕ) → w ≡ word_at words number → k < 64
+    → has_bit cut k ≡ leb (number * 64 + k) last
+    → has_bit (bit_and w cut) k ≡ (is_marked words (number * 64 + k) && leb (number * 64 + k) last)
+cut_word words number last cut w k is within cut_is =
+    has_bit-and w cut k
+    ∙ ap (λ t. has_bit w k && t) cut_is
+    ∙ ap (λ t. t && leb (number * 64 + k) last) (ap (λ n. has_bit n k) is ∙ same_page)
+  where
+    same_page : has_bit (word_at words number) k ≡ is_marked words (number * 64 + k)
+    same_page =
+        let word_is : number ≡ (number * 64 + k) / 64 = omega (arith, within) in
+        let bit_is : k ≡ (number * 64 + k) % 64 = omega (arith, within) in
+        ap (λ i. has_bit (word_at words i) k) word_is
+        ∙ ap (λ i. has_bit (word_at words ((number * 64 + k) / 64)) i) bit_is
 
 -- the end of one word and the beginning of the next
-pub both_words : (words : Words) (first k low high : ℕ) → low ≡ word_at words (first / 64)
-    → high ≡ word_at words (first / 64 + 1) → low < 2 ^ 64 → k < 64
-    → has_bit (bit_or (low / 2 ^ (first % 64)) (high * 2 ^ (64 - first % 64) % 2 ^ 64)) k ≡ is_marked words (first + k)
-both_words words first k low high low_is high_is small within =
+pub joined_bit : (low high s k : ℕ) → low < 2 ^ 64 → s < 64 → k < 64
+    → has_bit (bit_or (low / 2 ^ s) (high * 2 ^ (64 - s) % 2 ^ 64)) k
+    ≡ cond (ltb (s + k) 64) (has_bit low (s + k)) (has_bit high (s + k - 64))
+joined_bit low high s k small few within =
     has_bit-or (low / 2 ^ s) (high * 2 ^ (64 - s) % 2 ^ 64) k ∙ ⊎_elim near far (cases_lt (s + k) 64)
   where
-    s : ℕ
-    s = first % 64
-
     lower : Bool
     lower = has_bit (low / 2 ^ s) k
 
     upper : Bool
     upper = has_bit (high * 2 ^ (64 - s) % 2 ^ 64) k
 
-    near : first % 64 + k < 64 → (lower || upper) ≡ is_marked words (first + k)
+    either : Bool → Bool
+    either b = cond b (has_bit low (s + k)) (has_bit high (s + k - 64))
+
+    near : s + k < 64 → (lower || upper) ≡ either (ltb (s + k) 64)
     near below =
         ap (λ t. lower || t) (has_bit-shl_low high (64 - s) k within (omega (arith, below)))
         ∙ or_false lower
         ∙ has_bit-shr low s k
-        ∙ ap (λ w. has_bit w (s + k)) low_is
-        ∙ same_place words (first / 64) (first % 64 + k) ((first + k) / 64) ((first + k) % 64)
-        (omega (arith, below)) (omega (arith, below))
+        ∙ sym (ap either (lt-ltb (s + k) 64 below))
 
-    far : 64 ≤ first % 64 + k → (lower || upper) ≡ is_marked words (first + k)
+    far : 64 ≤ s + k → (lower || upper) ≡ either (ltb (s + k) 64)
     far above =
+        let place : k - (64 - s) ≡ s + k - 64 = omega (arith, above, few) in
         ap (λ t. t || upper) (has_bit-shr low s k ∙ has_bit-above low (s + k) small above)
         ∙ has_bit-shl_high high (64 - s) k within (omega (arith, above))
-        ∙ ap (λ w. has_bit w (k - (64 - s))) high_is
-        ∙ same_place words (first / 64 + 1) (k - (64 - first % 64)) ((first + k) / 64) ((first + k) % 64)
-        (omega (arith, above, within)) (omega (arith, above, within))
+        ∙ ap (λ i. has_bit high i) place
+        ∙ sym (ap either (le-ltb (s + k) 64 above))
+
+-- they have the marks of 64 pages, where each of the two has those of its own
+pub both_words : (test : ℕ → Bool) (low high number next shift page k : ℕ) → page ≡ number * 64 + shift
+    → next ≡ number + 1 → shift < 64 → k < 64 → ((i : ℕ) → i < 64 → has_bit low i ≡ test (number * 64 + i))
+    → ((i : ℕ) → i < 64 → has_bit high i ≡ test (next * 64 + i))
+    → cond (ltb (shift + k) 64) (has_bit low (shift + k)) (has_bit high (shift + k - 64)) ≡ test (page + k)
+both_words test low high number next shift page k page_is next_is small within low_is high_is =
+    ⊎_elim near far (cases_lt (shift + k) 64)
+  where
+    either : Bool → Bool
+    either b = cond b (has_bit low (shift + k)) (has_bit high (shift + k - 64))
+
+    near : shift + k < 64 → either (ltb (shift + k) 64) ≡ test (page + k)
+    near below =
+        let place : number * 64 + (shift + k) ≡ page + k = omega (arith, page_is) in
+        ap either (lt-ltb (shift + k) 64 below) ∙ low_is (shift + k) below ∙ ap test place
+
+    far : 64 ≤ shift + k → either (ltb (shift + k) 64) ≡ test (page + k)
+    far above =
+        let place : next * 64 + (shift + k - 64) ≡ page + k = omega (arith, page_is, next_is, above) in
+        ap either (le-ltb (shift + k) 64 above)
+        ∙ high_is (shift + k - 64) (omega (arith, small, within))
+        ∙ ap test place
 
 -- the lowest bits are those of pages up to the last
 pub up_to : (first last k many : ℕ) → many ≡ last + 1 - first → ltb k many ≡ leb (first + k) last

@@ -1,26 +1,31 @@
 -- The words of a report.
-use Rattle.std.proofs.Common.{◌≡◌, ℕ, ◌+◌, ◌/◌, ◌^◌, ◌<◌, ◌≤◌, Bool, false, ◌&&◌, leb, List, [], ◌∷◌, refl, sym, ap}
-use Rattle.std.proofs.Common.{◌∙◌, arith}
+use Rattle.std.proofs.Common.{◌≡◌, ℕ, ◌+◌, ◌-◌, ◌*◌, ◌/◌, ◌^◌, ◌<◌, ◌≤◌, Bool, false, cond, ◌&&◌, leb, ltb}
+use Rattle.std.proofs.Common.{List, [], ◌∷◌, refl, sym, ap, ◌∙◌, arith}
 use Rattle.std.proofs.lemmas.Bool.{le-leb}
 use Rattle.iofd_words.specs.Bounds.{Bounds}
 use Rattle.iofd_words.specs.DirtyWords.{dirty_word, dirty_words, is_page_of, is_reported, word_pages}
 use Rattle.dirty_bitmap.specs.Marks.{has_bit}
+use Rattle.dirty_bitmap.proofs.Kept.{both_words}
 use Rattle.dirty_bitmap.proofs.WordBits.{by_bits, has_bit-zero}
 
 word_pages-is : word_pages ≡ 64
 unfolding word_pages
 word_pages-is = refl
 
--- the word whose bits are the marks of the pages of the span from this one on
-pub word_is : (marked : ℕ → Bool) (span : Bounds) (last from page w : ℕ) → last ≡ span.last / 4096 → from ≡ page
+-- the word of the end of one word and the beginning of the next, each with the marks of its pages up to the last
+pub word_is : (marked : ℕ → Bool) (span : Bounds) (last number next shift page low high w : ℕ)
+    → last ≡ span.last / 4096 → page ≡ number * 64 + shift → next ≡ number + 1 → shift < 64
     → span.first / 4096 ≤ page → w < 2 ^ 64
-    → ((k : ℕ) → k < 64 → has_bit w k ≡ (marked (from + k) && leb (from + k) last))
+    → ((k : ℕ) → k < 64 → has_bit low k ≡ (marked (number * 64 + k) && leb (number * 64 + k) last))
+    → ((k : ℕ) → k < 64 → has_bit high k ≡ (marked (next * 64 + k) && leb (next * 64 + k) last))
+    → ((k : ℕ) → k < 64
+    → has_bit w k ≡ cond (ltb (shift + k) 64) (has_bit low (shift + k)) (has_bit high (shift + k - 64)))
     → w ≡ dirty_word marked span page
-word_is marked span last from page w last_is from_is behind small bits =
+word_is marked span last number next shift page low high w last_is page_is next_is few behind small lows highs bits =
     by_bits (λ k. is_reported marked span (page + k)) w word_pages word_pages-is small
     (λ k within.
     bits k within
-    ∙ ap (λ p. marked (p + k) && leb (p + k) last) from_is
+    ∙ both_words (λ p. marked p && leb p last) low high number next shift page k page_is next_is few within lows highs
     ∙ ap (λ t. marked (page + k) && t) (told k))
   where
     told : (k : ℕ) → leb (page + k) last ≡ is_page_of span (page + k)

@@ -1,10 +1,11 @@
 //! The marked pages of one page table.
 
-ghost use Rattle.std.specs.Prelude.{◌≡◌, ◌<◌, ◌≤◌, ◌+◌, ◌/◌, ◌^◌, ◌==◌, ◌&&◌, ◌||◌, ℕ, false, not, nat_le, OnOk, OnErr};
+ghost use Rattle.std.specs.Prelude.{◌≡◌, ◌<◌, ◌≤◌, ◌+◌, ◌*◌, ◌/◌, ◌^◌, ◌==◌, ◌&&◌, ◌||◌};
+ghost use Rattle.std.specs.Prelude.{ℕ, false, not, nat_le, OnOk, OnErr};
 ghost use Rattle.iofd_words.specs.DirtyWords.{dirty_words, is_page_of, is_told};
 ghost use Rattle.dirty_bitmap.specs.Marks.{has_bit, is_marked};
 
-use crate::bits::{add_bits, keep_bits, ones, word_in};
+use crate::bits::{add_bits, joined, keep_bits, ones, word_in};
 use iofd_words::{NoMemory, PAGE_SIZE, Span};
 use std::alloc::{Allocator, Global};
 use std::collections::BTreeMap;
@@ -64,33 +65,33 @@ impl<A: Allocator> Marks<A> {
     {
         let first = span.first() / PAGE_SIZE;
         let last = span.last() / PAGE_SIZE;
+        let number = first / WORD_PAGES;
+        let shift = first % WORD_PAGES;
+        let words = [
+            self.word_up_to(number, last),
+            self.word_up_to(number + 1, last),
+            self.word_up_to(number + 2, last),
+            self.word_up_to(number + 3, last),
+            self.word_up_to(number + 4, last),
+        ];
         [
-            self.marks_up_to(first, last),
-            self.marks_up_to(first + 64, last),
-            self.marks_up_to(first + 128, last),
-            self.marks_up_to(first + 192, last),
+            joined(words[0], words[1], shift),
+            joined(words[1], words[2], shift),
+            joined(words[2], words[3], shift),
+            joined(words[3], words[4], shift),
         ]
     }
 
-    // The marks of 64 pages from the first one on, without those of pages behind the last.
-    fn marks_up_to(&self, first: u64, last: u64) -> u64
+    // The word of this number, without the marks of pages behind the last. It looks up none that has just such pages.
+    fn word_up_to(&self, number: u64, last: u64) -> u64
         requires { last < 2 ^ 52 }
-        ensures { (k : ℕ) → k < 64 → has_bit result k ≡ (is_marked self.now (first + k) && nat_le (first + k) last) }
+        ensures { (k : ℕ) → k < 64 → has_bit result k
+            ≡ (is_marked self.now (number * 64 + k) && nat_le (number * 64 + k) last) }
     {
-        self.marks_from(first) & ones((last + 1).saturating_sub(first))
-    }
-
-    // The marks of 64 pages from this one on, a bit a page.
-    fn marks_from(&self, first: u64) -> u64
-        ensures { (k : ℕ) → k < 64 → has_bit result k ≡ is_marked self.now (first + k) }
-    {
-        let number = first / WORD_PAGES;
-        let shift = first % WORD_PAGES;
-        let low = word_in(&self.words, number) >> shift;
-        if shift == 0 {
-            return low;
+        if number > last / WORD_PAGES {
+            return 0;
         }
-        low | word_in(&self.words, number + 1) << (WORD_PAGES - shift)
+        word_in(&self.words, number) & ones(last + 1 - number * WORD_PAGES)
     }
 }
 

@@ -1,6 +1,6 @@
 //! The bytes of one access.
 
-ghost use Rattle.std.specs.Prelude.{◌≡◌, ◌↔◌, ◌≤◌, ◌<◌, ◌-◌, ◌++◌, length, replicate};
+ghost use Rattle.std.specs.Prelude.{◌≡◌, ◌↔◌, ◌≤◌, ◌<◌, ◌-◌, ◌++◌, length, take, drop, replicate};
 ghost use Rattle.std.specs.Prelude.{IsSome, IfSome};
 
 use std::marker::Model;
@@ -44,6 +44,21 @@ impl Burst {
         Some(Burst {
             bytes: padded(bytes),
             len: bytes.len() as u8,
+        })
+    }
+
+    /// The access of the first `len` of these bytes, behind which are zeros; None where `len` is 0, or more than 64.
+    pub fn from_padded(bytes: [u8; 64], len: usize) -> Option<Burst>
+        requires zeros { drop len bytes ≡ replicate (64 - len) 0 }
+        ensures fits { IsSome result ↔ ((0 < len) × (len ≤ 64)) }
+        ensures value { IfSome result (λ burst. burst ≡ take len bytes) }
+    {
+        if len == 0 || len > Burst::MAX {
+            return None;
+        }
+        Some(Burst {
+            bytes,
+            len: len as u8,
         })
     }
 

@@ -3,8 +3,12 @@ use Rattle.std.proofs.Common.{◌≡◌, ℕ, zero, suc, ◌+◌, ◌-◌, ◌*�
 use Rattle.std.proofs.Common.{List, [], ◌∷◌, ◌++◌, map, replicate, length, take, drop, refl, sym, ap, ◌∙◌, arith}
 use Rattle.std.proofs.Math.Seq.{take-add}
 use Rattle.std.proofs.lemmas.Bool.Decides.{nat_tests}
-use Rattle.std.proofs.lemmas.List.{drop-drop, map-append, take_all, take-take}
-use Rattle.std.proofs.lemmas.Simd.{length-chunk, take_more_put_chunk}
+use Rattle.std.proofs.lemmas.List.{append_assoc, drop-drop, drop-replicate, drop_at, get_or-drop, length-append}
+use Rattle.std.proofs.lemmas.List.{length-drop, length-replicate, map-append, replicate-append-replicate, same_lists}
+use Rattle.std.proofs.lemmas.List.{take_all, take_at, take-take}
+use Rattle.std.proofs.lemmas.List.Folds.{list_all-append}
+use Rattle.std.proofs.lemmas.Simd.{get_or-put_chunk_above, length-chunk, length-put_chunk, put_chunk_is}
+use Rattle.std.proofs.lemmas.Simd.{take_more_put_chunk}
 use Rattle.std.specs.Char.{digit_value}
 use Rattle.std.specs.List.{list_all}
 use Rattle.std.specs.Simd.Lanes.{zip2, sel_l, top, chunk, put_chunk}
@@ -154,3 +158,95 @@ last_stride i done text bytes buffer stride all made so_far before end room =
     ap (λ (n : ℕ). take n (put_chunk i buffer stride)) (sym end)
     ∙ next_stride i done text bytes buffer stride all made so_far before (omega (arith, end)) room
     ∙ take_all (i + 16) bytes (omega (arith, end))
+
+-- a stride changes nothing behind the bytes
+pub behind_stride : (i : ℕ) (text bytes buffer stride : List ℕ) → pairs text ≡ bytes
+    → stride ≡ pairs (chunk (2 * i) 32 text) → i + 16 ≤ length bytes
+    → drop (length bytes) (put_chunk i buffer stride) ≡ drop (length bytes) buffer
+behind_stride i text bytes buffer stride all made within =
+    let next = made ∙ stride_is i text ∙ ap (chunk i 16) all in
+    let long = ap (λ (l : List ℕ). length l) next ∙ length-chunk i 16 bytes within in
+    let n = length bytes in
+    same_lists (drop n (put_chunk i buffer stride)) (drop n buffer) (simp (length-drop, length-put_chunk) refl)
+    (λ k d h. simp get_or-drop (get_or-put_chunk_above i buffer stride (n + k) d (omega (arith, long, within))))
+
+-- ---- fewer bytes than a stride has
+
+pub few_digits : (text bytes : List ℕ) → pairs text ≡ bytes → length bytes < 16 → length text ≤ 32
+few_digits text bytes all few =
+    let half = length_pairs text in let same = ap (λ (l : List ℕ). length l) all in omega (arith, half, same)
+
+-- the bytes of digits that are joined
+joined_pairs : (front behind : List ℕ) → length front % 2 ≡ 0 → pairs (front ++ behind) ≡ pairs front ++ pairs behind
+joined_pairs [] behind even = refl
+joined_pairs (high ∷ []) behind even = absurd (omega (arith, even))
+joined_pairs (high ∷ low ∷ front) behind even =
+    ap (λ (l : List ℕ). (16 * digit_value high + digit_value low) ∷ l)
+    (joined_pairs front behind (omega (arith, even)))
+
+zero_pairs : (n : ℕ) → pairs (replicate (2 * n) 48) ≡ replicate n 0
+zero_pairs zero = refl
+zero_pairs (suc n) =
+    ap (λ (k : ℕ). pairs (replicate k 48)) (twice n) ∙ ap (λ (l : List ℕ). 0 ∷ l) (zero_pairs n)
+
+-- digits with zeros behind them
+abbrev pub padded : ℕ → List ℕ → List ℕ
+padded n text = text ++ drop n (replicate 32 48)
+
+pub padded_lower : (text front : List ℕ) (n : ℕ) → front ≡ text → list_all is_lower_digit text ≡ true
+    → list_all is_lower_digit (padded n front) ≡ true
+padded_lower text front n same lower =
+    list_all-append is_lower_digit front (drop n (replicate 32 48))
+    ∙ and-both (list_all is_lower_digit front) (list_all is_lower_digit (drop n (replicate 32 48)))
+    (ap (list_all is_lower_digit) same ∙ lower) (dropped_lower n (replicate 32 48) refl)
+
+padded_long : (text : List ℕ) → length text ≤ 32 → length (padded (length text) text) ≡ 32
+padded_long text few =
+    let behind = length-drop {A = ℕ} (length text) (replicate 32 48) in
+    omega (arith, length-append text (drop (length text) (replicate 32 48)), behind)
+
+-- a stride of them is the bytes, and zeros behind them
+pub few_stride : (text front bytes stride : List ℕ) → pairs text ≡ bytes → front ≡ text
+    → stride ≡ pairs (chunk 0 32 (padded (length text) front)) → length text % 2 ≡ 0 → length bytes < 16
+    → stride ≡ bytes ++ replicate (16 - length bytes) 0
+few_stride text front bytes stride all same made even few =
+    let few_text = few_digits text bytes all few in
+    let long = padded_long text few_text in
+    let missing : 32 - length text ≡ 2 * (16 - length bytes) =
+    omega (arith, even, length_pairs text, ap (λ (l : List ℕ). length l) all) in
+    made ∙ ap (λ (l : List ℕ). pairs (chunk 0 32 (padded (length text) l))) same
+    ∙ ap pairs (take_all 32 (padded (length text) text) (omega (arith, long)))
+    ∙ joined_pairs text (drop (length text) (replicate 32 48)) even
+    ∙ (λ i. all i ++ pairs (drop-replicate (length text) 32 48 i))
+    ∙ ap (λ (n : ℕ). bytes ++ pairs (replicate n 48)) missing
+    ∙ ap (λ (l : List ℕ). bytes ++ l) (zero_pairs (16 - length bytes))
+
+-- a buffer that begins with a stride of them
+few_put : (bytes buffer stride : List ℕ) → stride ≡ bytes ++ replicate (16 - length bytes) 0 → length bytes < 16
+    → 16 ≤ length buffer
+    → put_chunk 0 buffer stride ≡ bytes ++ (replicate (16 - length bytes) 0 ++ drop 16 buffer)
+few_put bytes buffer stride made few room =
+    let behind : List ℕ = replicate (16 - length bytes) 0 in
+    let long : length stride ≡ 16 =
+    ap (λ (l : List ℕ). length l) made
+    ∙ omega (arith, length-append bytes behind, length-replicate {A = ℕ} (16 - length bytes) 0) in
+    put_chunk_is 0 buffer stride (omega (arith, long, room))
+    ∙ (λ i. made i ++ drop (long i) buffer) ∙ append_assoc bytes behind (drop 16 buffer)
+
+pub few_written : (bytes buffer stride : List ℕ) → stride ≡ bytes ++ replicate (16 - length bytes) 0
+    → length bytes < 16 → 16 ≤ length buffer → take (length bytes) (put_chunk 0 buffer stride) ≡ bytes
+few_written bytes buffer stride made few room =
+    ap (take (length bytes)) (few_put bytes buffer stride made few room)
+    ∙ take_at bytes (replicate (16 - length bytes) 0 ++ drop 16 buffer) (length bytes) refl
+
+pub few_zeros : (bytes buffer stride : List ℕ) → stride ≡ bytes ++ replicate (16 - length bytes) 0
+    → length bytes < 16 → buffer ≡ replicate 64 0
+    → drop (length bytes) (put_chunk 0 buffer stride) ≡ replicate (64 - length bytes) 0
+few_zeros bytes buffer stride made few clear =
+    let zeros : List ℕ = replicate (16 - length bytes) 0 in
+    let room : 16 ≤ length buffer = omega (arith, ap (λ (l : List ℕ). length l) clear) in
+    let sum : 16 - length bytes + 48 ≡ 64 - length bytes = omega (arith, few) in
+    ap (drop (length bytes)) (few_put bytes buffer stride made few room)
+    ∙ drop_at bytes (zeros ++ drop 16 buffer) (length bytes) refl
+    ∙ ap (λ (l : List ℕ). zeros ++ drop 16 l) clear
+    ∙ replicate-append-replicate (16 - length bytes) 48 0 ∙ ap (λ (n : ℕ). replicate n 0) sum

@@ -39,9 +39,8 @@ impl<'a> AccessBytes<'a> {
     pub fn burst(&self) -> Burst
         ensures { result ≡ self.now }
     {
-        let len = self.bytes.len();
         let mut bytes = [0; 64];
         self.bytes.write_to(&mut bytes);
-        Burst::new(&bytes[..len]).unwrap()
+        Burst::from_padded(bytes, self.bytes.len()).unwrap()
     }
 }

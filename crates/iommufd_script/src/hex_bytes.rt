@@ -2,7 +2,7 @@
 
 ghost use Rattle.std.specs.Prelude.{◌≡◌, ◌==◌, ◌%◌, ◌/◌, ◌≤◌, Some, IfOk, OnErr};
 ghost use Rattle.std.specs.Prelude.{length, slice_index};
-ghost use Rattle.std.specs.Prelude.{None, true, ◌<◌, ◌+◌, ◌*◌, map, take};
+ghost use Rattle.std.specs.Prelude.{None, true, ◌<◌, ◌+◌, ◌-◌, ◌*◌, map, take, drop, replicate};
 ghost use Rattle.std.specs.Char.{digit_value};
 ghost use Rattle.std.specs.List.{list_all};
 ghost use Rattle.std.specs.Simd.Lanes.{chunk};
@@ -22,7 +22,7 @@ pub struct HexBytes<'a> {
 
 impl<'a> Model for HexBytes<'a> {
     ghost use Rattle.std.specs.Prelude.{List, ℕ};
-    ghost use Rattle.std.specs.Prelude.{◌≡◌, true};
+    ghost use Rattle.std.specs.Prelude.{◌≡◌, ◌%◌, true, length};
     ghost use Rattle.std.specs.List.{list_all};
     ghost use Rattle.iommufd_script.specs.Digits.{pairs, is_lower_digit};
 
@@ -30,7 +30,8 @@ impl<'a> Model for HexBytes<'a> {
 
     ghost view = { λ bytes. pairs bytes.digits.now };
 
-    ghost invariant = { λ bytes. list_all is_lower_digit bytes.digits.now ≡ true };
+    ghost invariant = { λ bytes.
+        (list_all is_lower_digit bytes.digits.now ≡ true) × (length bytes.digits.now % 2 ≡ 0) };
 }
 
 // Whether each character is a hexadecimal digit in lower case. It goes on past one that isn't, so that the compiler
@@ -113,7 +114,8 @@ impl<'a> HexBytes<'a> {
     fn write_many(&self, buffer: &mut [u8])
         requires many { 16 ≤ length self.now }
         requires room { length self.now ≤ length buffer.old }
-        ensures { take (length self.now) buffer.new ≡ self.now }
+        ensures written { take (length self.now) buffer.new ≡ self.now }
+        ensures behind { drop (length self.now) buffer.new ≡ drop (length self.now) buffer.old }
     {
         let last = self.len() - STRIDE;
         let mut done = 0;
@@ -124,7 +126,19 @@ impl<'a> HexBytes<'a> {
         sixteen_bytes(self.digits, 2 * last).copy_to_slice(&mut buffer[last..]);
     }
 
-    // Writes them to the front of a buffer.
+    // Writes fewer than sixteen to the front of a buffer, as a whole stride: the digits that are missing are zeros.
+    fn write_few(&self, buffer: &mut [u8; 64])
+        requires { length self.now < 16 }
+        ensures written { take (length self.now) buffer.new ≡ self.now }
+        ensures zeros { buffer.old ≡ replicate 64 0
+            → drop (length self.now) buffer.new ≡ replicate (64 - length self.now) 0 }
+    {
+        let mut digits = [b'0'; 32];
+        digits[..self.digits.len()].copy_from_slice(self.digits);
+        sixteen_bytes(&digits, 0).copy_to_slice(buffer);
+    }
+
+    // Writes them to the front of a buffer, which may end behind them.
     fn write_over(&self, buffer: &mut [u8])
         requires { length self.now ≤ length buffer.old }
         ensures { take (length self.now) buffer.new ≡ self.now }
@@ -137,12 +151,18 @@ impl<'a> HexBytes<'a> {
         }
     }
 
-    /// Writes them to the front of a buffer, which has to have room for them.
+    /// Writes them to the front of a buffer, which has to have room for them. What is behind them may change; in a
+    /// buffer of zeros it stays zero.
     pub fn write_to(&self, buffer: &mut [u8; 64])
         requires { length self.now ≤ 64 }
-        ensures { take (length self.now) buffer.new ≡ self.now }
+        ensures written { take (length self.now) buffer.new ≡ self.now }
+        ensures zeros { buffer.old ≡ replicate 64 0
+            → drop (length self.now) buffer.new ≡ replicate (64 - length self.now) 0 }
     {
-        self.write_over(buffer);
+        if self.len() < STRIDE {
+            return self.write_few(buffer);
+        }
+        self.write_many(buffer);
     }
 
     /// They, in memory of this allocator. The error comes only where the memory was refused; no bytes need none.

@@ -9,11 +9,11 @@ pub bounds-digits-i : goal.bounds-digits-i
 bounds-digits-i c = omega (arith, pair_within c.self.inside.digits.now c.args.i c.self.view_is c.requires)
 
 pub bits_of-requires : goal.bits_of-requires
-bits_of-requires c = high_small c.self.inside.digits.now c.args.i c.self.view_is c.requires c.self.invariant
+bits_of-requires c = high_small c.self.inside.digits.now c.args.i c.self.view_is c.requires c.self.invariant.0
 
 pub overflow_mul-result : goal.overflow_mul-result
 overflow_mul-result c =
-    let high = high_small c.self.inside.digits.now c.args.i c.self.view_is c.requires c.self.invariant in
+    let high = high_small c.self.inside.digits.now c.args.i c.self.view_is c.requires c.self.invariant.0 in
     omega (arith, high, c.bits_of.ensures)
 
 pub overflow_mul-i-2 : goal.overflow_mul-i-2
@@ -26,12 +26,12 @@ pub bounds-digits-i-2 : goal.bounds-digits-i-2
 bounds-digits-i-2 c = pair_within c.self.inside.digits.now c.args.i c.self.view_is c.requires
 
 pub bits_of-requires-2 : goal.bits_of-requires-2
-bits_of-requires-2 c = low_small c.self.inside.digits.now c.args.i c.self.view_is c.requires c.self.invariant
+bits_of-requires-2 c = low_small c.self.inside.digits.now c.args.i c.self.view_is c.requires c.self.invariant.0
 
 pub overflow_add-result : goal.overflow_add-result
 overflow_add-result c =
-    let high = high_small c.self.inside.digits.now c.args.i c.self.view_is c.requires c.self.invariant in
-    let low = low_small c.self.inside.digits.now c.args.i c.self.view_is c.requires c.self.invariant in
+    let high = high_small c.self.inside.digits.now c.args.i c.self.view_is c.requires c.self.invariant.0 in
+    let low = low_small c.self.inside.digits.now c.args.i c.self.view_is c.requires c.self.invariant.0 in
     omega (arith, high, low, c.bits_of.ensures, c.bits_of-2.ensures)
 
 pub returns : goal.returns
