@@ -2,3 +2,4 @@ pub mod Counts
 pub mod Held
 pub mod HeldPins
 pub mod PageOrder
+pub mod Words

@@ -1,13 +1,18 @@
 //! Pins, their pages and who holds them, as the keys of maps.
 
-ghost use Rattle.std.specs.Prelude.{◌≡◌, ◌≤◌};
+ghost use Rattle.std.specs.Prelude.{◌≡◌, ◌≤◌, ◌++◌};
+ghost use Rattle.std.specs.Hash as fed;
+ghost use Rattle.std.specs.Cmp.Rules.{hashing};
+ghost use Rattle.std.proofs.Common.{rules};
 ghost use Rattle.held_pins.specs.Held.{at_page, holder_of, key_of, is_reached, page_in};
+ghost use Rattle.held_pins.specs.Words.{object_word, page_word, pair_word, tag};
 
 use crate::pin::HeldPin;
 use iofd_words::{FileNo, ObjId, PAGE_SIZE, Span};
+use std::hash::{Hash, Hasher};
 
 /// All that a pin is.
-#[derive(Clone, Copy, PartialEq, Eq, PartialOrd, Ord, Hash)]
+#[derive(Clone, Copy, PartialEq, Eq, PartialOrd, Ord)]
 pub(crate) struct PinKey {
     pub file: u16,
     pub access: u32,
@@ -19,7 +24,7 @@ pub(crate) struct PinKey {
 
 /// A page of an object of a file, as an access object has pinned it, for writes too or for reads alone. The object is
 /// the address space, or the access object itself. So pages of one object stand side by side, by number.
-#[derive(Clone, Copy, PartialEq, Eq, PartialOrd, Ord, Hash)]
+#[derive(Clone, Copy, PartialEq, Eq, PartialOrd, Ord)]
 pub(crate) struct PageKey {
     pub file: u16,
     pub object: u32,
@@ -29,10 +34,76 @@ pub(crate) struct PageKey {
 }
 
 /// An access object.
-#[derive(Clone, Copy, PartialEq, Eq, PartialOrd, Ord, Hash)]
+#[derive(Clone, Copy, PartialEq, Eq, PartialOrd, Ord)]
 pub(crate) struct HolderKey {
     pub file: u16,
     pub access: u32,
+}
+
+// Keys are hashed as words of 64 bits, two to a write where there are two: each write costs a multiplication.
+
+impl Hash for PinKey {
+    ghost hash_input = { λ key. fed.u128 (pair_word key.first key.last)
+        ++ fed.u128 (pair_word (object_word key.access key.ioas) (tag key.file key.write)) };
+
+    ghost respects_eq = { Prim.search (hashing, rules) };
+
+    fn hash<H: Hasher>(&self, state: &mut H) {
+        state.write_u128(pair_word(self.first, self.last));
+        let ids = object_word(self.access, self.ioas);
+        state.write_u128(pair_word(ids, tag(self.file, self.write)));
+    }
+}
+
+impl Hash for PageKey {
+    ghost hash_input = { λ key. fed.u128 (pair_word (page_word key.page key.file key.write)
+        (object_word key.object key.access)) };
+
+    ghost respects_eq = { Prim.search (hashing, rules) };
+
+    fn hash<H: Hasher>(&self, state: &mut H) {
+        let page = page_word(self.page, self.file, self.write);
+        state.write_u128(pair_word(page, object_word(self.object, self.access)));
+    }
+}
+
+impl Hash for HolderKey {
+    ghost hash_input = { λ key. fed.u64 (object_word key.access key.file) };
+
+    ghost respects_eq = { Prim.search (hashing, rules) };
+
+    fn hash<H: Hasher>(&self, state: &mut H) {
+        state.write_u64(object_word(self.access, self.file as u32));
+    }
+}
+
+/// A file, and whether for writes too: 17 bits.
+fn tag(file: u16, write: bool) -> u64
+    ensures { result ≡ tag file write }
+{
+    file as u64 * 2 + write as u64
+}
+
+/// Two numbers of 32 bits side by side.
+fn object_word(high: u32, low: u32) -> u64
+    ensures { result ≡ object_word high low }
+{
+    ((high as u64) << 32) + low as u64
+}
+
+/// The number of a page, and the tag in the highest 17 bits. A number from 2^47 on reaches into these: there unlike
+/// pages may have the same word, and are still told apart as keys.
+fn page_word(page: u64, file: u16, write: bool) -> u64
+    ensures { result ≡ page_word page file write }
+{
+    page.wrapping_add(tag(file, write) << 47)
+}
+
+/// Two words side by side.
+fn pair_word(low: u64, high: u64) -> u128
+    ensures { result ≡ pair_word low high }
+{
+    ((high as u128) << 64) + low as u128
 }
 
 /// The key of a pin.
