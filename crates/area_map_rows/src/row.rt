@@ -237,8 +237,7 @@ fn move_rest<A: Allocator>(areas: &mut Vec<Area, A>, at: usize, others: &mut Vec
     ensures capacity { vec_capacity areas.new ≡ vec_capacity areas.old }
     ensures others_capacity { vec_capacity others.old ≤ vec_capacity others.new }
 {
-    while at < areas.len() {
-        let area = areas.remove(at);
+    for area in areas.drain(at..) {
         others.push(area).unwrap();
     }
 }

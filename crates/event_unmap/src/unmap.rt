@@ -109,8 +109,9 @@ pub fn commit<A: Allocator>(
         // It was refused.
         unreachable!()
     };
+    let met = areas.within(span);
     let pins = &state.access_pins;
-    let waits = area_changes::some_waits(areas.within(span), &attached, file, ioas, pins);
+    let waits = area_changes::some_waits(met.again(), &attached, file, ioas, pins);
     let (page_tables, pool) = (&state.page_tables, &state.pool);
     idle::reserve_given(
         page_tables,
@@ -123,7 +124,6 @@ pub fn commit<A: Allocator>(
         waits,
         given,
     )?;
-    let met = areas.within(span);
     clearing::clear(
         met.again(),
         file,

@@ -39,7 +39,7 @@ reserve_given-requires g c =
     let known = c.requires.granted.granted in
     let own = own_are c.args.state.now _ c.requires.granted c.args.file c.args.request.ioas _
     c.in-Some-areas_of.ensures.1 in
-    let kept = subst AreKept (sym own) c.within.ensures.kept in
+    let kept = subst AreKept (sym own) c.within-met.ensures.kept in
     rw (← own) (can_count c.requires.granted.at known.world c.args.state.now c.args.file c.args.request known.tidy
     known.shows known.none kept c.in-Some.span c.in-Some.ensures.value c.facts.ensures)
 
@@ -49,7 +49,7 @@ clear-requires g c =
     c.in-Some-areas_of.ensures.1 in
     let met = c.within-met.ensures.value ∙ ap (λ (l : List Area). areas_within c.in-Some.span l) (sym own) in
     let known = c.requires.granted.granted in
-    rw (c.again.ensures, met)
+    rw (c.again-2.ensures, met)
     (can_clear_within c.requires.granted.at known.world c.args.state.now c.args.file c.args.request.ioas
     c.in-Some.span known.tidy known.shows)
 
@@ -60,14 +60,14 @@ returns-then-waits-clause-ok g c = λ at via w tidy shows none may.
     c.in-Some-areas_of.ensures.1 in
     let kept = subst AreKept (sym own) c.within-met.ensures.kept in
     let met = c.within-met.ensures.value ∙ ap (λ (l : List Area). areas_within c.in-Some.span l) (sym own) in
-    let told = rw (c.within.ensures.value, ← own) at c.some_waits-waits.ensures in
+    let told = rw (c.again.ensures, c.within-met.ensures.value, ← own) at c.some_waits-waits.ensures in
     let most = c.most_tries-most.ensures
     ∙ ap (λ (l : List Area). most_tries (areas_within c.in-Some.span l)) (sym own) in
     let devices = attached_is at w c.args.state.now c.args.file c.args.request tidy shows c.in-Some-attached_to.attached
     c.args.state.now.attachments.items refl c.in-Some-attached_to.ensures.some in
     let waits = waits_shown at w c.args.state.now c.args.file c.args.request tidy shows none kept c.in-Some.span
     c.in-Some-attached_to.attached c.in-Some.ensures.value devices in
-    let clears = rw (c.again.ensures, met) at c.clear.ensures.cleared in
+    let clears = rw (c.again-2.ensures, met) at c.clear.ensures.cleared in
     rw (c.in_ok-reserve_given.ensures.same, c.requires.none) (still at (event.Unmap c.args.file c.args.request) via
     c.wait.result _ (λ left t. rw c.wait.ensures.told refl) w tidy
     (rw (c.wait.ensures.told, most) (
@@ -90,7 +90,7 @@ bytes_of-bytes-requires-clause-few g c =
     let own = own_areas c.args.state.now.objects c.args.file c.args.request.ioas in
     let fewer = length-filter-le (λ (area : Area). lies_in area.span c.in-Some.span) own in
     let most = kept.few in
-    rw (c.again-2.ensures, met) (omega (arith, fewer, most))
+    rw (c.again-3.ensures, met) (omega (arith, fewer, most))
 
 pub bytes_of-bytes-requires-clause-fit : goal.bytes_of-bytes-requires-clause-fit
 bytes_of-bytes-requires-clause-fit g c =
@@ -99,7 +99,7 @@ bytes_of-bytes-requires-clause-fit g c =
     let kept = subst AreKept (sym own) c.within-met.ensures.kept in
     let met = c.within-met.ensures.value ∙ ap (λ (l : List Area). areas_within c.in-Some.span l) (sym own) in
     let known = c.requires.granted.granted in
-    rw (c.again-2.ensures, met)
+    rw (c.again-3.ensures, met)
     (bytes_fit c.requires.granted.at known.world c.args.state.now c.args.file c.args.request c.in-Some.span known.tidy
     known.shows kept)
 
@@ -109,7 +109,7 @@ remove-requires g c =
     c.in-Some-areas_of.ensures.1 in
     let kept = subst AreKept (sym own) c.within-met.ensures.kept in
     let met = c.within-met.ensures.value ∙ ap (λ (l : List Area). areas_within c.in-Some.span l) (sym own) in
-    let told = rw (c.within.ensures.value, ← own) at c.some_waits-waits.ensures in
+    let told = rw (c.again.ensures, c.within-met.ensures.value, ← own) at c.some_waits-waits.ensures in
     let known = c.requires.granted.granted in
     let at = c.requires.granted.at in
     let devices = attached_is at known.world c.args.state.now c.args.file c.args.request known.tidy
@@ -131,7 +131,7 @@ give_back-requires-clause-can g c =
     c.in-Some-areas_of.ensures.1 in
     let kept = subst AreKept (sym own) c.within-met.ensures.kept in
     let met = c.within-met.ensures.value ∙ ap (λ (l : List Area). areas_within c.in-Some.span l) (sym own) in
-    let told = rw (c.within.ensures.value, ← own) at c.some_waits-waits.ensures in
+    let told = rw (c.again.ensures, c.within-met.ensures.value, ← own) at c.some_waits-waits.ensures in
     let known = c.requires.granted.granted in
     let at = c.requires.granted.at in
     let w = known.world in
@@ -139,8 +139,8 @@ give_back-requires-clause-can g c =
     c.in-Some-attached_to.attached c.args.state.now.attachments.items refl c.in-Some-attached_to.ensures.some in
     let waits = waits_shown at w c.args.state.now c.args.file c.args.request known.tidy known.shows known.none kept
     c.in-Some.span c.in-Some-attached_to.attached c.in-Some.ensures.value devices in
-    let clears = rw (c.again.ensures, met) at c.clear.ensures.cleared in
-    let bytes = rw (c.again-2.ensures, met) at c.bytes_of-bytes.ensures in
+    let clears = rw (c.again-2.ensures, met) at c.clear.ensures.cleared in
+    let bytes = rw (c.again-3.ensures, met) at c.bytes_of-bytes.ensures in
     let done = not_false _ (waits ∙ sym told ∙ c.if-waits.false) in
     let answers : UnmapAnswers w c.args.file c.args.request (reply.Bytes c.bytes_of-bytes.result) = (
       done,
@@ -166,13 +166,13 @@ returns-clause-ok g c = λ at via w tidy shows none may.
     c.in-Some-areas_of.ensures.1 in
     let kept = subst AreKept (sym own) c.within-met.ensures.kept in
     let met = c.within-met.ensures.value ∙ ap (λ (l : List Area). areas_within c.in-Some.span l) (sym own) in
-    let told = rw (c.within.ensures.value, ← own) at c.some_waits-waits.ensures in
+    let told = rw (c.again.ensures, c.within-met.ensures.value, ← own) at c.some_waits-waits.ensures in
     let devices = attached_is at w c.args.state.now c.args.file c.args.request tidy shows c.in-Some-attached_to.attached
     c.args.state.now.attachments.items refl c.in-Some-attached_to.ensures.some in
     let waits = waits_shown at w c.args.state.now c.args.file c.args.request tidy shows none kept c.in-Some.span
     c.in-Some-attached_to.attached c.in-Some.ensures.value devices in
-    let clears = rw (c.again.ensures, met) at c.clear.ensures.cleared in
-    let bytes = rw (c.again-2.ensures, met) at c.bytes_of-bytes.ensures in
+    let clears = rw (c.again-2.ensures, met) at c.clear.ensures.cleared in
+    let bytes = rw (c.again-3.ensures, met) at c.bytes_of-bytes.ensures in
     let done = not_false _ (waits ∙ sym told ∙ c.if-waits.false) in
     let answers : UnmapAnswers w c.args.file c.args.request (reply.Bytes c.bytes_of-bytes.result) = (
       done,
@@ -204,8 +204,8 @@ pub returns-in_err-reserve_given-clause-pending : goal.returns-in_err-reserve_gi
 returns-in_err-reserve_given-clause-pending g c =
     let own = own_are c.args.state.now _ c.requires.granted c.args.file c.args.request.ioas _
     c.in-Some-areas_of.ensures.1 in
-    let kept = subst AreKept (sym own) c.within.ensures.kept in
-    let told = rw (c.within.ensures.value, ← own) at c.some_waits-waits.ensures in
+    let kept = subst AreKept (sym own) c.within-met.ensures.kept in
+    let told = rw (c.again.ensures, c.within-met.ensures.value, ← own) at c.some_waits-waits.ensures in
     on_err_same c.from_residual.result _ (λ at w tidy shows none.
     let devices = attached_is at w c.args.state.now c.args.file c.args.request tidy shows c.in-Some-attached_to.attached
     c.args.state.now.attachments.items refl c.in-Some-attached_to.ensures.some in
@@ -218,7 +218,7 @@ pub returns-in_err-reserve_given-clause-tables : goal.returns-in_err-reserve_giv
 returns-in_err-reserve_given-clause-tables g c =
     let own = own_are c.args.state.now _ c.requires.granted c.args.file c.args.request.ioas _
     c.in-Some-areas_of.ensures.1 in
-    let kept = subst AreKept (sym own) c.within.ensures.kept in
+    let kept = subst AreKept (sym own) c.within-met.ensures.kept in
     let lacking = rw (← own) at c.in_err-reserve_given.ensures.lacking in
     on_err_same c.from_residual.result _ (λ at w tidy shows none.
     loses_one at w c.args.state.now c.args.file c.args.request tidy shows none kept c.in-Some.span
