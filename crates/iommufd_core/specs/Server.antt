@@ -1,5 +1,5 @@
 -- What a core is seen as.
-use Rattle.std.specs.Prelude.{◌≡◌, ◌<◌, ◌⊎◌, ℕ, Bool, true, false, ◌&&◌, not, None, IsTrue, length, nat_lt}
+use Rattle.std.specs.Prelude.{◌≡◌, ◌<◌, ◌≤◌, ◌+◌, ◌⊎◌, ℕ, Bool, true, false, ◌&&◌, not, None, IsTrue, length, nat_lt}
 use Rattle.iofd_words.specs.Allowed.{ranges_of}
 use Rattle.iofd_refusals.specs.Checks.{refusal}
 use Rattle.iofd_steps.specs.Answers.{waits}
@@ -18,6 +18,10 @@ use Rattle.server_state.specs.Tables.{has_page_table, has_page_tables}
 pub record Server (A : Type 0) : Type 0 where
   pub history : History A
   pub room : ℕ
+
+-- it lets no memory for records go: records and room together are no fewer
+abbrev pub KeepsRoom : {A : Type 0} → Server A → Server A → Type 0
+KeepsRoom old new = length old.history.records + old.room ≤ length new.history.records + new.room
 
 -- the events that may take memory beside their record's, by what the refusals read: those by which something comes,
 -- those by which page tables or their tables go, for the list of the frames that they give back, and a device's write,

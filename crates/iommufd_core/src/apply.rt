@@ -9,7 +9,7 @@ ghost use Rattle.iofd_steps.specs.Run.{IsRun};
 ghost use Rattle.server_state.specs.Choice.{IsChosen, IsLooked};
 ghost use Rattle.iommufd_core.specs.History.{HasOneMore, may_apply, may_look, world};
 ghost use Rattle.iommufd_core.specs.Refused.{refused_cause};
-ghost use Rattle.iommufd_core.specs.Server.{MayWant};
+ghost use Rattle.iommufd_core.specs.Server.{KeepsRoom, MayWant};
 ghost use Rattle.iofd_words.specs.View.{view};
 
 use crate::{events, look, notices, opening, ranges, turn_counts};
@@ -99,6 +99,9 @@ impl<A: Allocator + Copy> Core<A> {
         // doesn't wait and some table goes. It changes nothing.
         ensures memory { OnErr result (MayWant self.old act.now.event) }
         ensures unchanged { OnErr result (self.new.history ≡ self.old.history) }
+
+        // The memory that it has for records it keeps for them.
+        ensures room { KeepsRoom self.old self.new }
     {
         let at = self.records.len() as u64;
         if self.records.reserve(1).is_err() {
