@@ -26,7 +26,7 @@ use Rattle.iofd_words.specs.declared.refusal.Cause.{Cause}
 use Rattle.iofd_runs.proofs.PassFound.{contained_map}
 use Rattle.iofd_runs.proofs.PinnedAccess.{some_outcome}
 use Rattle.server_state.proofs.ViewShown.{same_query_refusal}
-use Rattle.event_device_access.specs.Outcomes.{given_outcome}
+use Rattle.event_device_access.specs.Outcomes.{chosen_outcome}
 use Rattle.server_state.specs.Seen.{seen}
 use Rattle.server_state.specs.Shows.{Shows}
 use Rattle.server_state.specs.Step.{IsTidy}
@@ -51,7 +51,7 @@ told_faults w device address len (o ∷ os) =
     by_test false = refl
 
 pub chosen_read : {A : Type 0} (at : ℕ) (w : World) (records : List (Record A)) (device : DeviceNo) (iova : Iova)
-    (len : ℕ) (o : Outcome) → IsTidy at w → o ≡ given_outcome None (outcomes w device iova.0 Read)
+    (len : ℕ) (o : Outcome) → IsTidy at w → o ≡ chosen_outcome None (outcomes w device iova.0 Read)
     → Contains (outcomes w device iova.0 Read) o
     × IsLooked (lawful_answers w records (query.DeviceRead device iova len)) (read_answer w device iova.0 len o)
 chosen_read at w records device iova len o tidy is =

@@ -51,7 +51,7 @@ use Rattle.iofd_runs.proofs.PassFound.{contained_map}
 use Rattle.iofd_runs.proofs.PinnedAccess.{some_outcome}
 use Rattle.iofd_rows.proofs.Found.{found_passes as found_holds}
 use Rattle.server_state.specs.Choice.{WriteChosen, is_denial, without_cache, first_of}
-use Rattle.event_device_access.specs.Outcomes.{given_outcome}
+use Rattle.event_device_access.specs.Outcomes.{chosen_outcome}
 use Rattle.server_state.specs.Step.{IsTidy}
 
 -- ---- what is given without a cached frame
@@ -71,7 +71,7 @@ pub record IsGiven (os : List Outcome) (o : Outcome) : Type 0 where
   pub lawful : Contains os o
   pub denial : is_some (find is_denial os) ≡ true → is_denial o ≡ true
 
-pub given_is : (os : List Outcome) (o : Outcome) → (os ≡ [] → ⊥) → o ≡ given_outcome None os → IsGiven os o
+pub given_is : (os : List Outcome) (o : Outcome) → (os ≡ [] → ⊥) → o ≡ chosen_outcome None os → IsGiven os o
 given_is os o some is = by_denial (find is_denial os) refl
   where
     told : (x : Option Outcome) → without_cache os ≡ x
@@ -130,7 +130,7 @@ MayPass lawful None = Unit {0}
 MayPass lawful (Some frame) = Contains lawful (Passes frame)
 
 pub chosen_answer : (at : ℕ) (w : World) (device : DeviceNo) (iova : Iova) (via : Option FrameNo) (o : Outcome)
-    → IsTidy at w → o ≡ given_outcome via (outcomes w device iova.0 Write)
+    → IsTidy at w → o ≡ chosen_outcome via (outcomes w device iova.0 Write)
     → MayPass (outcomes w device iova.0 Write) via
     → Contains (outcomes w device iova.0 Write) o
     × Contains (map (write_reply w device iova.0) (outcomes w device iova.0 Write)) (write_reply w device iova.0 o)

@@ -2,7 +2,7 @@
 use Rattle.std.proofs.Common.{◌≡◌, ℕ, ◌<◌, ◌^◌, Bool, true, false, cond, leb, is_some, Option, Some}
 use Rattle.std.proofs.Common.{None, List, [], ◌∷◌, refl, ap, sym, ◌∙◌}
 use Rattle.std.specs.Option.{option_map_or}
-use Rattle.event_device_access.specs.Outcomes.{given_outcome}
+use Rattle.event_device_access.specs.Outcomes.{chosen_outcome}
 use Rattle.page_table_set.specs.PageTables.{hwpt_of, walk_through}
 use Rattle.iofd_rows.proofs.Bools.{clash}
 use Rattle.iofd_runs.proofs.PinnedAccess.{page_pinned}
@@ -148,17 +148,17 @@ module _ {A : Type 0} (at : ℕ) (w : World) (s : State A) (tidy : IsTidy at w) 
   pub walk_given : attachment_of w.attachments device ≡ Some a
       → option_map_or (λ (d : DeviceSettings). leb (2 ^ bits_of d.width) address)
       (device_of w.settings device) false ≡ false
-      → given_outcome None (policy.outcomes w device address right) ≡ of_walk right
+      → chosen_outcome None (policy.outcomes w device address right) ≡ of_walk right
       (walk_through (leads_of w) address (hwpt_of s.page_tables.tables a.file a.hwpt))
   unfolding policy.outcomes policy.access_outcomes
   walk_given attached near =
-      ap (λ (o : Option Attachment). given_outcome None
+      ap (λ (o : Option Attachment). chosen_outcome None
       (elim o as (λ _. List Outcome) [
         | None ↦ Denied NoContext ∷ []
         | Some b ↦ policy.by_width (device_of w.settings device) address (Denied BeyondWidth ∷ [])
             (policy.translated (view w) device address right b)
       ])) attached
-      ∙ ap (given_outcome None) (by_settings (device_of w.settings device) near)
+      ∙ ap (chosen_outcome None) (by_settings (device_of w.settings device) near)
       ∙ ap (λ (o : Option Outcome). elim o as (λ _. Outcome) [ Some outcome ↦ outcome | None ↦ Denied WriteDenied ])
       (walk_tells attached)
     where
@@ -175,7 +175,7 @@ module _ {A : Type 0} (at : ℕ) (w : World) (s : State A) (tidy : IsTidy at w) 
       (device_of w.settings device) false ≡ false
       → (frame : FrameNo) (rights : Rights) → walk.Hit frame rights ≡ walk_through (leads_of w) address
       (hwpt_of s.page_tables.tables a.file a.hwpt) → has_right rights right ≡ true
-      → given_outcome None (policy.outcomes w device address right) ≡ Passes frame
+      → chosen_outcome None (policy.outcomes w device address right) ≡ Passes frame
   hit_given attached near frame rights hit has =
       walk_given attached near ∙ ap (of_walk right) (sym hit)
       ∙ ap (λ (b : Bool). cond b (Passes frame) (Denied (denied_by right))) has
@@ -186,7 +186,7 @@ module _ {A : Type 0} (at : ℕ) (w : World) (s : State A) (tidy : IsTidy at w) 
       (device_of w.settings device) false ≡ false
       → (frame : FrameNo) (rights : Rights) → walk.Hit frame rights ≡ walk_through (leads_of w) address
       (hwpt_of s.page_tables.tables a.file a.hwpt) → has_right rights right ≡ false
-      → given_outcome None (policy.outcomes w device address right) ≡ Denied (denied_by right)
+      → chosen_outcome None (policy.outcomes w device address right) ≡ Denied (denied_by right)
   unright_given attached near frame rights hit lacks =
       walk_given attached near ∙ ap (of_walk right) (sym hit)
       ∙ ap (λ (b : Bool). cond b (Passes frame) (Denied (denied_by right))) lacks
@@ -197,7 +197,7 @@ module _ {A : Type 0} (at : ℕ) (w : World) (s : State A) (tidy : IsTidy at w) 
       (device_of w.settings device) false ≡ false
       → (to : Walk) → to ≡ walk_through (leads_of w) address (hwpt_of s.page_tables.tables a.file a.hwpt)
       → ((frame : FrameNo) (rights : Rights) → to ≡ walk.Hit frame rights → ⊥)
-      → given_outcome None (policy.outcomes w device address right) ≡ Denied (denied_by right)
+      → chosen_outcome None (policy.outcomes w device address right) ≡ Denied (denied_by right)
   missed_given attached near to is misses = walk_given attached near ∙ ap (of_walk right) (sym is) ∙ by_case to misses
     where
       by_case : (to : Walk) → ((frame : FrameNo) (rights : Rights) → to ≡ walk.Hit frame rights → ⊥)
@@ -211,10 +211,10 @@ module _ {A : Type 0} (at : ℕ) (w : World) (s : State A) (tidy : IsTidy at w) 
 module _ (v : View) (device : DeviceNo) (address : ℕ) (right : AccessKind) where
   -- the device isn't attached
   pub unattached_given : attachment_of v.attachments device ≡ None
-      → given_outcome None (policy.access_outcomes v device address right) ≡ Denied NoContext
+      → chosen_outcome None (policy.access_outcomes v device address right) ≡ Denied NoContext
   unfolding policy.access_outcomes
   unattached_given none =
-      ap (λ (o : Option Attachment). given_outcome None
+      ap (λ (o : Option Attachment). chosen_outcome None
       (elim o as (λ _. List Outcome) [
         | None ↦ Denied NoContext ∷ []
         | Some a ↦ policy.by_width (device_of v.settings device) address (Denied BeyondWidth ∷ [])
@@ -225,10 +225,10 @@ module _ (v : View) (device : DeviceNo) (address : ℕ) (right : AccessKind) whe
   pub beyond_given : (a : Attachment) → attachment_of v.attachments device ≡ Some a
       → option_map_or (λ (d : DeviceSettings). leb (2 ^ bits_of d.width) address)
       (device_of v.settings device) false ≡ true
-      → given_outcome None (policy.access_outcomes v device address right) ≡ Denied BeyondWidth
+      → chosen_outcome None (policy.access_outcomes v device address right) ≡ Denied BeyondWidth
   unfolding policy.access_outcomes
   beyond_given a attached far =
-      ap (λ (o : Option Attachment). given_outcome None
+      ap (λ (o : Option Attachment). chosen_outcome None
       (elim o as (λ _. List Outcome) [
         | None ↦ Denied NoContext ∷ []
         | Some b ↦ policy.by_width (device_of v.settings device) address (Denied BeyondWidth ∷ [])
@@ -238,8 +238,8 @@ module _ (v : View) (device : DeviceNo) (address : ℕ) (right : AccessKind) whe
     where
       by_settings : (o : Option DeviceSettings)
           → option_map_or (λ (d : DeviceSettings). leb (2 ^ bits_of d.width) address) o false ≡ true
-          → given_outcome None (policy.by_width o address (Denied BeyondWidth ∷ [])
+          → chosen_outcome None (policy.by_width o address (Denied BeyondWidth ∷ [])
           (policy.translated v device address right a)) ≡ Denied BeyondWidth
       by_settings None far = cc
-      by_settings (Some d) far = ap (λ (b : Bool). given_outcome None
+      by_settings (Some d) far = ap (λ (b : Bool). chosen_outcome None
           (cond b (Denied BeyondWidth ∷ []) (policy.translated v device address right a))) far

@@ -1,4 +1,4 @@
--- The core's words for what may come of a device's access, and which outcome is given.
+-- The core's words for what may come of a device's access, and which outcome is chosen.
 use Rattle.std.specs.Prelude.{Option, Some, None, Result, Ok, Err, List, [], ◌∷◌}
 use Rattle.iofd_words.specs.Policy.{Outcome, Passes, Denied}
 use Rattle.iofd_words.specs.declared.fault.FaultReason.TheVariants.{WriteDenied}
@@ -24,11 +24,11 @@ abbrev pub passes_at : Option FrameNo → List Outcome
 passes_at None = []
 passes_at (Some frame) = Passes frame ∷ []
 
--- the outcome that is given: a pass at the cached frame, if there is one; else what comes of it without a cached frame,
--- or where nothing may come of it (which no run leads to) a denial
-abbrev pub given_outcome : Option FrameNo → List Outcome → Outcome
-given_outcome (Some frame) outcomes = Passes frame
-given_outcome None outcomes = elim (without_cache outcomes) [ Some outcome ↦ outcome | None ↦ Denied WriteDenied ]
+-- the outcome that the server chooses: a pass at the cached frame, if there is one; else what comes of it without a
+-- cached frame, or where nothing may come of it (which no run leads to) a denial
+abbrev pub chosen_outcome : Option FrameNo → List Outcome → Outcome
+chosen_outcome (Some frame) outcomes = Passes frame
+chosen_outcome None outcomes = elim (without_cache outcomes) [ Some outcome ↦ outcome | None ↦ Denied WriteDenied ]
 
 abbrev pub outcome_told : Result FrameNo FaultReason → Outcome
 outcome_told (Ok frame) = Passes frame

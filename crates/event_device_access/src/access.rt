@@ -12,7 +12,7 @@ ghost use Rattle.iofd_words.specs.Policy as policy;
 ghost use Rattle.iofd_words.specs.Width.{bits_of};
 ghost use Rattle.server_state.specs.Held.{areas_at};
 ghost use Rattle.iofd_words.specs.Policy.{is_pass_at};
-ghost use Rattle.event_device_access.specs.Outcomes.{given_outcome, outcome_told, outcomes_of, passes_at};
+ghost use Rattle.event_device_access.specs.Outcomes.{chosen_outcome, outcome_told, outcomes_of, passes_at};
 ghost use Rattle.server_state.specs.Seen.{seen};
 ghost use Rattle.server_state.specs.Step.{IsKnown};
 ghost use Rattle.user_memory.specs.Memory.{pinned_frame};
@@ -94,7 +94,7 @@ fn of_device<A: Allocator>(
 
 /// The frame at which the access passes, or why it is denied: at the cached frame, if there is one; else
 /// where the device's page table leads with that right. It costs the levels of the page table, and looks at no area.
-pub(crate) fn given<A: Allocator>(
+pub(crate) fn outcome<A: Allocator>(
     state: &State<A>,
     device: DeviceNo,
     address: u64,
@@ -103,7 +103,7 @@ pub(crate) fn given<A: Allocator>(
 ) -> Result<FrameNo, FaultReason>
     requires { IsKnown state.now }
     ensures { outcome_told result
-        ≡ given_outcome cached (policy.access_outcomes (seen state.now) device address kind) }
+        ≡ chosen_outcome cached (policy.access_outcomes (seen state.now) device address kind) }
 {
     if let Some(frame) = cached {
         return Ok(frame);

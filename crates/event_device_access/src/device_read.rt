@@ -28,7 +28,7 @@ pub fn read<A: Allocator>(state: &State<A>, device: DeviceNo, iova: Iova, len: u
         → first_true (query_checks (view w) (queries.DeviceRead device iova len)) ≡ None
         → IsLooked (lawful_answers w records (queries.DeviceRead device iova len)) result }
 {
-    match access::given(state, device, iova.0, AccessKind::Read, None) {
+    match access::outcome(state, device, iova.0, AccessKind::Read, None) {
         Ok(frame) => cached(state, device, iova, len, frame),
         Err(reason) => denied(state, device, iova, reason),
     }

@@ -85,7 +85,7 @@ pub fn commit<A: Allocator + Copy>(
     ensures err { OnErr result (ShowsSame state.old state.new) }
     ensures memory { OnErr result (IsTrue (tracks_writes_of (seen state.old) device)) }
 {
-    match access::given(state, device, iova.0, AccessKind::Write, via) {
+    match access::outcome(state, device, iova.0, AccessKind::Write, via) {
         Ok(frame) => {
             mark(state, device, iova)?;
             let offset = (iova.0 % PAGE_SIZE) as usize;

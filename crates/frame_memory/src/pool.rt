@@ -135,7 +135,7 @@ impl<A: Allocator> Pool<A> {
         };
         self.free.remove(frame);
         self.free_count -= 1;
-        reach(&mut self.frames, frame as usize);
+        fill_to(&mut self.frames, frame as usize);
         let taken = &mut self.frames[frame as usize];
         taken.holds = 1;
         taken.bytes = zero_bytes();
@@ -148,7 +148,7 @@ impl<A: Allocator> Pool<A> {
         requires room { slice_index self.old.holds frame.0 + 1 < 2 ^ 128 }
         ensures { self.new ≡ with_holds self.old frame.0 (slice_index self.old.holds frame.0 + 1) }
     {
-        reach(&mut self.frames, frame.0 as usize);
+        fill_to(&mut self.frames, frame.0 as usize);
         let held = &mut self.frames[frame.0 as usize];
         held.holds += 1;
         if held.holds == 1 {
@@ -200,7 +200,7 @@ impl<A: Allocator> Pool<A> {
         ensures others { (f at len : ℕ) → AreApart f at len frame.0 offset (length bytes.now) →
             bytes_at self.new f at len ≡ bytes_at self.old f at len }
     {
-        reach(&mut self.frames, frame.0 as usize);
+        fill_to(&mut self.frames, frame.0 as usize);
         overwrite(&mut self.frames[frame.0 as usize].bytes, offset, bytes);
     }
 
@@ -227,7 +227,7 @@ impl<A: Allocator> Pool<A> {
 }
 
 // Writes the frames that lack up to this one, for which there is room.
-fn reach<A: Allocator>(frames: &mut Vec<Frame, A>, index: usize)
+fn fill_to<A: Allocator>(frames: &mut Vec<Frame, A>, index: usize)
     requires { index < vec_capacity frames.old }
     ensures items { frames.new.items ≡
         frames.old.items ++ replicate (index + 1 - length frames.old.items) (record { holds = 0; bytes = zeros }) }

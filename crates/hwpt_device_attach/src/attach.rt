@@ -156,12 +156,12 @@ pub fn commit<A: Allocator + Copy>(
     // It is within its limits: so there are few devices.
     state.config.facts();
     if let Some(hwpt) = there {
-        counts::one_more(&mut state.objects, file, Kind::Hwpt, hwpt);
+        counts::add_user(&mut state.objects, file, Kind::Hwpt, hwpt);
         attachments::insert(&mut state.attachments, Attachment { device, file, hwpt });
         return Ok(Reply::Id(hwpt));
     }
     let made = making::make(state, file, pt_id, width, true, taken)?;
-    counts::one_more(&mut state.objects, file, Kind::Hwpt, made);
+    counts::add_user(&mut state.objects, file, Kind::Hwpt, made);
     let attachment = Attachment {
         device,
         file,

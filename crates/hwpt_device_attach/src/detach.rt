@@ -67,7 +67,7 @@ pub fn commit<A: Allocator>(
     reserve_where(state, goes, file, hwpt, given)?;
     area_changes::pay(&mut state.objects, file, ioas, device);
     attachments::remove(&mut state.attachments, device);
-    counts::one_fewer(&mut state.objects, file, Kind::Hwpt, hwpt);
+    counts::remove_user(&mut state.objects, file, Kind::Hwpt, hwpt);
     if goes {
         state.dirty.stop(file, hwpt);
         release::remove_page_table(state, file, hwpt, ioas, given);

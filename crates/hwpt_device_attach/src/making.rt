@@ -69,7 +69,7 @@ pub(crate) fn make<A: Allocator + Copy>(
         &mut state.memory,
         &mut state.pool,
     )?;
-    counts::one_more(&mut state.objects, file, Kind::Ioas, ioas);
+    counts::add_user(&mut state.objects, file, Kind::Ioas, ioas);
     let table = held_table(ioas, width, automatic);
     let id = state.objects.insert_reserved(file, table);
     filling::add(

@@ -28,7 +28,7 @@ pub fn attach<A: Allocator>(
         table.old table.new }
 {
     set_attached(table, file, id, Some(ioas));
-    counts::one_more(table, file, Kind::Ioas, ioas);
+    counts::add_user(table, file, Kind::Ioas, ioas);
 }
 
 /// Detaches the file's access object of this id from its address space of the other id, which is counted one user
@@ -44,7 +44,7 @@ pub fn detach<A: Allocator>(
         → HasAccess file id None (λ f i. users_at table.old.rows f i - one_at file ioas f i) table.old table.new }
 {
     set_attached(table, file, id, None);
-    counts::one_fewer(table, file, Kind::Ioas, ioas);
+    counts::remove_user(table, file, Kind::Ioas, ioas);
 }
 
 /// The file's access object of this id is attached to this address space from now on, or to none.

@@ -12,7 +12,7 @@ use std::alloc::Allocator;
 
 /// Counts one user more of the file's object of this kind and id. There are fewer than 2^32 - 1, since a file has at
 /// most 65,535 objects, and there are at most 256 devices. Without such an object nothing changes.
-pub fn one_more<A: Allocator>(
+pub fn add_user<A: Allocator>(
     table: &mut ObjectTable<Held<A>, A>,
     file: FileNo,
     kind: Kind,
@@ -38,7 +38,7 @@ pub fn one_more<A: Allocator>(
 
 /// Counts one user fewer of the file's object of this kind and id, which has some. Without such an object, or where it
 /// has none, nothing changes.
-pub fn one_fewer<A: Allocator>(
+pub fn remove_user<A: Allocator>(
     table: &mut ObjectTable<Held<A>, A>,
     file: FileNo,
     kind: Kind,

@@ -143,7 +143,7 @@ pub fn remove_page_table<A: Allocator>(
         GivesBack (rows_found frames (hwpt_of state.old.page_tables.tables file hwpt))
         given.old.items given.new.items) }
 {
-    counts::one_fewer(&mut state.objects, file, Kind::Ioas, ioas);
+    counts::remove_user(&mut state.objects, file, Kind::Ioas, ioas);
     remove_object(&mut state.objects, file, Kind::Hwpt, hwpt);
     state.page_tables.remove(&mut state.pool, file, hwpt, given);
     unpin_untranslated(

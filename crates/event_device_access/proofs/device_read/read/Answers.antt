@@ -8,7 +8,7 @@ use Rattle.iofd_words.specs.declared.query.Query.TheVariants as query
 use Rattle.server_state.specs.Choice.{IsLooked}
 use Rattle.event_device_access.proofs.DeviceReads.{cached_only, chosen_read, pass_told}
 use Rattle.server_state.proofs.ViewShown.{same_outcomes}
-use Rattle.event_device_access.specs.Outcomes.{given_outcome}
+use Rattle.event_device_access.specs.Outcomes.{chosen_outcome}
 use Rattle.event_device_access.proofs.device_read.read.Goals as goal
 
 pub cached-requires-clause-asked : goal.cached-requires-clause-asked
@@ -20,8 +20,8 @@ cached-requires-clause-passes g c =
     let w = known.world in
     let frame = c.in-Ok.frame in
     let same = same_outcomes w c.args.state.now known.shows known.tidy.tabled.owned c.args.device c.args.iova.0 Read in
-    let told : Passes frame ≡ given_outcome None (outcomes w c.args.device c.args.iova.0 Read) =
-    c.in-Ok.ensures ∙ ap (given_outcome None) same in
+    let told : Passes frame ≡ chosen_outcome None (outcomes w c.args.device c.args.iova.0 Read) =
+    c.in-Ok.ensures ∙ ap (chosen_outcome None) same in
     let chosen = chosen_read {A = g.row.A.Denot} known.at w [] c.args.device c.args.iova c.args.len (Passes frame)
     known.tidy told in
     ap (list_any (is_pass_at frame)) same
@@ -31,8 +31,8 @@ pub returns-in-Ok : goal.returns-in-Ok
 returns-in-Ok g c = λ at w records tidy shows none.
     let frame = c.in-Ok.frame in
     let iova = c.args.iova in
-    let told : Passes frame ≡ given_outcome None (outcomes w c.args.device iova.0 Read) =
-    c.in-Ok.ensures ∙ ap (given_outcome None)
+    let told : Passes frame ≡ chosen_outcome None (outcomes w c.args.device iova.0 Read) =
+    c.in-Ok.ensures ∙ ap (chosen_outcome None)
     (same_outcomes w c.args.state.now shows tidy.tabled.owned c.args.device iova.0 Read) in
     let chosen = chosen_read at w records c.args.device iova c.args.len (Passes frame) tidy told in
     let passes = pass_told frame (outcomes w c.args.device iova.0 Read) chosen.0 in
@@ -42,7 +42,7 @@ returns-in-Ok g c = λ at w records tidy shows none.
 
 pub returns-in-Err : goal.returns-in-Err
 returns-in-Err g c = λ at w records tidy shows none.
-    let told = c.in-Err.ensures ∙ ap (given_outcome None)
+    let told = c.in-Err.ensures ∙ ap (chosen_outcome None)
     (same_outcomes w c.args.state.now shows tidy.tabled.owned c.args.device c.args.iova.0 Read) in
     let chosen = chosen_read at w records c.args.device c.args.iova c.args.len _ tidy told in
     let fault = c.denied.ensures ∙ ap

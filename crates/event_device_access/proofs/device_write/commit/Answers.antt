@@ -18,11 +18,11 @@ use Rattle.server_state.specs.Shows.{DirtyShown, Shows}
 use Rattle.server_state.specs.declared.state.State.{State}
 use Rattle.frame_memory.specs.Pool.{written}
 use Rattle.user_memory_rows.proofs.FramesFollow.{written_shown}
-use Rattle.event_device_access.specs.Outcomes.{given_outcome}
+use Rattle.event_device_access.specs.Outcomes.{chosen_outcome}
 use Rattle.event_device_access.proofs.device_write.commit.Goals as goal
 
-pub given-requires : goal.given-requires
-given-requires g c =
+pub outcome-requires : goal.outcome-requires
+outcome-requires g c =
     let known = c.requires.granted.granted in
     record { at = c.requires.at; world = known.world; tidy = known.tidy; shows = known.shows }
 
@@ -32,8 +32,8 @@ write-requires-clause-frame g c =
     let w = known.world in
     let frame = c.in-Ok.frame in
     let iova = c.args.iova in
-    let told : Passes c.in-Ok.frame ≡ given_outcome c.args.via (outcomes w c.args.device c.args.iova.0 Write) =
-    c.in-Ok.ensures ∙ ap (given_outcome c.args.via) (same_outcomes w c.args.state.now known.shows
+    let told : Passes c.in-Ok.frame ≡ chosen_outcome c.args.via (outcomes w c.args.device c.args.iova.0 Write) =
+    c.in-Ok.ensures ∙ ap (chosen_outcome c.args.via) (same_outcomes w c.args.state.now known.shows
     known.tidy.tabled.owned c.args.device
     c.args.iova.0 Write)
     in
@@ -62,8 +62,8 @@ returns-in_ok-mark-in-Ok-clause-ok g c = λ at w tidy shows none may.
     let device = c.args.device in
     let iova = c.args.iova in
     let bytes = c.args.bytes.now in
-    let told : Passes frame ≡ given_outcome c.args.via (outcomes w device iova.0 Write) =
-    c.in-Ok.ensures ∙ ap (given_outcome c.args.via)
+    let told : Passes frame ≡ chosen_outcome c.args.via (outcomes w device iova.0 Write) =
+    c.in-Ok.ensures ∙ ap (chosen_outcome c.args.via)
     (same_outcomes w c.args.state.now shows tidy.tabled.owned device iova.0 Write) in
     let answer = chosen_answer at w device iova c.args.via (Passes frame) tidy told may in
     let within = pass_in_pool w tidy.fit.pin_frames device iova.0 Write frame answer.0 in
@@ -112,7 +112,7 @@ pub returns-in-Err-clause-ok : goal.returns-in-Err-clause-ok
 unfolding changed Answers
 returns-in-Err-clause-ok g c = λ at w tidy shows none may.
     let iova = c.args.iova in
-    let told = c.in-Err.ensures ∙ ap (given_outcome c.args.via)
+    let told = c.in-Err.ensures ∙ ap (chosen_outcome c.args.via)
     (same_outcomes w c.args.state.now shows tidy.tabled.owned c.args.device iova.0 Write) in
     let answer = chosen_answer at w c.args.device iova c.args.via _ tidy told may in
     let fault = c.fault_of.ensures ∙ ap (λ settings. fault_of settings c.args.device iova.0 Write c.in-Err.reason)

@@ -36,14 +36,14 @@ returns-in-Some-there-clause-ok g c =
     λ at via.
     subst (λ (taken : List FrameNo). MovingSteps at (event.Attach c.args.device c.args.pt_id) via c.args.state.now
     (reply.Id c.in-Some-there.hwpt) taken []
-    (record c.args.state.now { objects = c.one_more.new.table; attachments = c.insert.new.list }))
+    (record c.args.state.now { objects = c.add_user.new.table; attachments = c.insert.new.list }))
     (sym c.requires.empty)
     (λ w tidy shows none may.
-    shows_there at w c.args.state.now c.one_more.new.table c.insert.new.list c.args.device c.args.pt_id
+    shows_there at w c.args.state.now c.add_user.new.table c.insert.new.list c.args.device c.args.pt_id
     c.in-Some-there.hwpt
     c.in-Some.bound.now c.in-Some-width_of.width via tidy shows none
     (sym c.in-Some.ensures) (sym c.in-Some-width_of.ensures) (sym c.in-Some-there.ensures)
-    c.facts.ensures c.one_more.ensures.rows c.one_more.ensures.others
+    c.facts.ensures c.add_user.ensures.rows c.add_user.ensures.others
     (c.insert.ensures ∙ ap (with_attachment (record {
       device = c.args.device;
       file = c.in-Some.bound.now.file;
@@ -75,10 +75,10 @@ returns-clause-ok g c =
     let roomy = attach_roomy at w c.args.state.now c.args.device c.args.pt_id c.in-Some.bound.now
     c.in-Some-width_of.width tidy shows none (sym c.in-Some.ensures) (sym c.in-Some-width_of.ensures)
     (sym c.in_default-there.ensures) in
-    shows_new at w c.args.state.now c.make.new.state c.one_more-2.new.table c.insert-2.new.list c.args.device
+    shows_new at w c.args.state.now c.make.new.state c.add_user-2.new.table c.insert-2.new.list c.args.device
     c.args.pt_id c.in_ok-made.made
     c.in-Some.bound.now c.in-Some-width_of.width via c.make.new.taken.items tidy shows none
     (sym c.in-Some.ensures) (sym c.in-Some-width_of.ensures) (sym c.in_default-there.ensures)
-    (c.in_ok-made.ensures.ok at w tidy shows_room roomy) c.facts.ensures c.one_more-2.ensures.rows
-    c.one_more-2.ensures.others
+    (c.in_ok-made.ensures.ok at w tidy shows_room roomy) c.facts.ensures c.add_user-2.ensures.rows
+    c.add_user-2.ensures.others
     c.insert-2.ensures

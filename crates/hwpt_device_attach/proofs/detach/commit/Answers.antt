@@ -29,12 +29,12 @@ pub returns-else-goes-clause-ok : goal.returns-else-goes-clause-ok
 returns-else-goes-clause-ok g c = λ at via w tidy shows none may.
     let told = last_told at w c.args.state.now c.remove.new.list c.args.device c.in-Some.attachment.now
     c.in-Some-space_of.field-0-0 c.in-Some-space_of.ioas c.pay.new.table tidy shows none (sym c.in-Some.ensures)
-    (sym c.in-Some-space_of.ensures) c.pay.ensures c.remove.ensures c.one_fewer.new.table c.one_fewer.ensures.rows
-    c.one_fewer.ensures.others in
+    (sym c.in-Some-space_of.ensures) c.pay.ensures c.remove.ensures c.remove_user.new.table c.remove_user.ensures.rows
+    c.remove_user.ensures.others in
     shows_detached at w c.args.state.now c.remove.new.list c.args.device c.in-Some.attachment.now
     c.in-Some-space_of.field-0-0 c.in-Some-space_of.ioas c.pay.new.table tidy shows none (sym c.in-Some.ensures)
-    (sym c.in-Some-space_of.ensures) c.pay.ensures c.remove.ensures c.one_fewer.new.table c.one_fewer.ensures.rows
-    c.one_fewer.ensures.others via c.reserve_where.new.given.items
+    (sym c.in-Some-space_of.ensures) c.pay.ensures c.remove.ensures c.remove_user.new.table c.remove_user.ensures.rows
+    c.remove_user.ensures.others via c.reserve_where.new.given.items
     (c.reserve_where.ensures.same ∙ c.requires.none) (sym told ∙ sym c.if-goes.ensures)
 
 pub remove_page_table-requires-clause-pins : goal.remove_page_table-requires-clause-pins
@@ -43,23 +43,23 @@ remove_page_table-requires-clause-pins g c = λ table tables pool gone.
     let told = last_told c.requires.granted.at known.world c.args.state.now c.remove.new.list c.args.device
     c.in-Some.attachment.now c.in-Some-space_of.field-0-0 c.in-Some-space_of.ioas c.pay.new.table known.tidy
     known.shows known.none (sym c.in-Some.ensures) (sym c.in-Some-space_of.ensures) c.pay.ensures c.remove.ensures
-    c.one_fewer.new.table c.one_fewer.ensures.rows c.one_fewer.ensures.others in
+    c.remove_user.new.table c.remove_user.ensures.rows c.remove_user.ensures.others in
     may_unpin c.requires.granted.at known.world c.args.state.now c.remove.new.list c.args.device
     c.in-Some.attachment.now c.in-Some-space_of.field-0-0 c.in-Some-space_of.ioas c.pay.new.table known.tidy
     known.shows known.none (sym c.in-Some.ensures) (sym c.in-Some-space_of.ensures) c.pay.ensures c.remove.ensures
-    c.one_fewer.new.table c.one_fewer.ensures.rows c.one_fewer.ensures.others c.stop.new.self table tables pool
+    c.remove_user.new.table c.remove_user.ensures.rows c.remove_user.ensures.others c.stop.new.self table tables pool
     (sym told ∙ sym c.if-goes.ensures) gone
 
 pub returns-then-goes-clause-ok : goal.returns-then-goes-clause-ok
 returns-then-goes-clause-ok g c = λ at via w tidy shows none may.
     let told = last_told at w c.args.state.now c.remove.new.list c.args.device c.in-Some.attachment.now
     c.in-Some-space_of.field-0-0 c.in-Some-space_of.ioas c.pay.new.table tidy shows none (sym c.in-Some.ensures)
-    (sym c.in-Some-space_of.ensures) c.pay.ensures c.remove.ensures c.one_fewer.new.table c.one_fewer.ensures.rows
-    c.one_fewer.ensures.others in
+    (sym c.in-Some-space_of.ensures) c.pay.ensures c.remove.ensures c.remove_user.new.table c.remove_user.ensures.rows
+    c.remove_user.ensures.others in
     shows_lost at w c.args.state.now c.remove.new.list c.args.device c.in-Some.attachment.now
     c.in-Some-space_of.field-0-0 c.in-Some-space_of.ioas c.pay.new.table tidy shows none (sym c.in-Some.ensures)
-    (sym c.in-Some-space_of.ensures) c.pay.ensures c.remove.ensures c.one_fewer.new.table c.one_fewer.ensures.rows
-    c.one_fewer.ensures.others c.remove_page_table.new.state c.stop.new.self
+    (sym c.in-Some-space_of.ensures) c.pay.ensures c.remove.ensures c.remove_user.new.table c.remove_user.ensures.rows
+    c.remove_user.ensures.others c.remove_page_table.new.state c.stop.new.self
     (dirty_stopped w.tracked c.args.state.now.dirty c.stop.new.self shows.dirty c.in-Some.attachment.now.file
     c.in-Some.attachment.now.hwpt c.stop.ensures.tracks c.stop.ensures.marks) (sym told ∙ sym c.if-goes.ensures)
     c.remove_page_table.ensures.state

@@ -76,7 +76,7 @@ returns-in_err-pin_space-clause-err g c =
 pub insert_reserved-id-requires : goal.insert_reserved-id-requires
 insert_reserved-id-requires g c =
     let HasRoom = λ (t : Table _). IsSome (reserved_id t c.args.file) in
-    subst HasRoom (sym c.one_more.ensures.others) c.in_ok-reserve.ensures.object_room
+    subst HasRoom (sym c.add_user.ensures.others) c.in_ok-reserve.ensures.object_room
 
 pub add-requires-clause-can : goal.add-requires-clause-can
 add-requires-clause-can g c =
@@ -88,10 +88,10 @@ add-requires-clause-can g c =
     c.reserve.ensures.tables c.reserve.ensures.others c.requires.may.shows in
     let table = c.insert_reserved-id.new.self in
     let range = c.insert_reserved-id.ensures.in_range in
-    let base = c.one_more.new.table in
+    let base = c.add_user.new.table in
     let one = counts_one c.requires.may.at w s c.args.file c.args.ioas c.args.width base tidy shows
-    c.requires.may.may c.one_more.ensures.rows in
-    let base_files = ap (λ (t : Table _). t.files) c.one_more.ensures.others in
+    c.requires.may.may c.add_user.ensures.rows in
+    let base_files = ap (λ (t : Table _). t.files) c.add_user.ensures.others in
     let fresh = fresh_there c.requires.may.at w s tidy shows c.args.file c.args.ioas id c.args.width c.args.automatic
     table base one c.insert_reserved-id.ensures.unused range.0 range.1 in
     let rows : table.rows ≡ inserted (row_of c.args.file c.args.ioas id c.args.width c.args.automatic) base.rows =
@@ -134,9 +134,9 @@ returns-clause-ok g c =
     let object = made_object c.args.file c.args.ioas id c.args.width c.args.automatic in
     let shows = reserved_unseen w c.args.state.now s c.reserve.ensures.rows c.reserve.ensures.files
     c.reserve.ensures.tables c.reserve.ensures.others shows_old in
-    let base = c.one_more.new.table in
-    let one = counts_one at w s c.args.file c.args.ioas c.args.width base tidy shows roomy c.one_more.ensures.rows in
-    let files = c.insert_reserved-id.ensures.files ∙ ap (λ (t : Table _). t.files) c.one_more.ensures.others in
+    let base = c.add_user.new.table in
+    let one = counts_one at w s c.args.file c.args.ioas c.args.width base tidy shows roomy c.add_user.ensures.rows in
+    let files = c.insert_reserved-id.ensures.files ∙ ap (λ (t : Table _). t.files) c.add_user.ensures.others in
     let fresh = fresh_there at w s tidy shows c.args.file c.args.ioas id c.args.width c.args.automatic table base one
     unused range.0 range.1 in
     let rows : table.rows ≡ inserted (row_of c.args.file c.args.ioas id c.args.width c.args.automatic) base.rows =

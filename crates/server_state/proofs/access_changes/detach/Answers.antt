@@ -4,5 +4,5 @@ use Rattle.server_state.proofs.access_changes.detach.Goals as goal
 
 pub returns : goal.returns
 returns g c = λ orderly has space some.
-    detached_counted c.args.table.now c.set_attached.new.table c.one_fewer.new.table c.args.file c.args.id c.args.ioas
-    None (c.set_attached.ensures orderly has) space c.one_fewer.ensures.others c.one_fewer.ensures.rows some
+    detached_counted c.args.table.now c.set_attached.new.table c.remove_user.new.table c.args.file c.args.id c.args.ioas
+    None (c.set_attached.ensures orderly has) space c.remove_user.ensures.others c.remove_user.ensures.rows some

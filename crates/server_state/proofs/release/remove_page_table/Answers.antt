@@ -7,9 +7,9 @@ unpin_untranslated-requires g c =
     c.requires.pins c.remove_object.new.table c.remove.new.self c.remove.new.pool (record {
       objects = λ at w attachments areas width automatic tidy shown is_kind unused.
           table_leaves w.settings w.closed w.objects attachments areas c.args.state.now.objects
-          c.remove_object.new.table shown c.args.file c.args.hwpt c.args.ioas width automatic c.one_fewer.new.table
+          c.remove_object.new.table shown c.args.file c.args.hwpt c.args.ioas width automatic c.remove_user.new.table
           tidy.ids tidy.debts.spaces
-          is_kind unused c.one_fewer.ensures.rows c.one_fewer.ensures.others c.remove_object.ensures.rows
+          is_kind unused c.remove_user.ensures.rows c.remove_user.ensures.others c.remove_object.ensures.rows
           c.remove_object.ensures.files;
       kept = c.remove.ensures.tables;
       stand = c.remove.ensures.stand;
@@ -22,8 +22,8 @@ returns-clause-state g c = record {
   gone = record {
     objects = λ at w attachments areas width automatic tidy shown is_kind unused.
         table_leaves w.settings w.closed w.objects attachments areas c.args.state.now.objects c.remove_object.new.table
-        shown c.args.file c.args.hwpt c.args.ioas width automatic c.one_fewer.new.table tidy.ids tidy.debts.spaces
-        is_kind unused c.one_fewer.ensures.rows c.one_fewer.ensures.others c.remove_object.ensures.rows
+        shown c.args.file c.args.hwpt c.args.ioas width automatic c.remove_user.new.table tidy.ids tidy.debts.spaces
+        is_kind unused c.remove_user.ensures.rows c.remove_user.ensures.others c.remove_object.ensures.rows
         c.remove_object.ensures.files;
     kept = c.remove.ensures.tables;
     stand = c.remove.ensures.stand;

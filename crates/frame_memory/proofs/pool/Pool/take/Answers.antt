@@ -42,8 +42,8 @@ returns-clause-ok g c =
     let f = c.in-Some.frame in
     let free = least-is_free c.self.inside.free c.self.inside.free_count (seen all).holds f c.self.invariant.told
     c.in-Some.ensures.some in
-    let is = reached c.self.inside.frames.items c.reach.new.frames.items f c.self.inside.count c.self.invariant.few
-    free.0 c.reach.ensures.items in
+    let is = reached c.self.inside.frames.items c.fill_to.new.frames.items f c.self.inside.count c.self.invariant.few
+    free.0 c.fill_to.ensures.items in
     rw (← c.self.view_is) (seen-given is c.zero_bytes-taken.result c.zero_bytes-taken.ensures)
 
 pub invariant_of-self : goal.invariant_of-self
@@ -52,13 +52,13 @@ invariant_of-self g c =
     let f = c.in-Some.frame in
     let free = least-is_free c.self.inside.free c.self.inside.free_count (seen all).holds f c.self.invariant.told
     c.in-Some.ensures.some in
-    let is = reached c.self.inside.frames.items c.reach.new.frames.items f c.self.inside.count c.self.invariant.few
-    free.0 c.reach.ensures.items in
+    let is = reached c.self.inside.frames.items c.fill_to.new.frames.items f c.self.inside.count c.self.invariant.few
+    free.0 c.fill_to.ensures.items in
     let x = c.index_mut-taken.result.now in
     let read = c.index_mut-taken.ensures.value in
     kept-held is x read c.self.inside.free c.self.inside.free_count c.self.invariant.told
-    (vec_capacity c.reach.new.frames) c.remove.new.self (record { holds = 1; bytes = c.zero_bytes-taken.result })
-    (rw c.reach.ensures.capacity c.self.invariant.fits) (count_seen is x read ∙ free.1) (omega arith)
+    (vec_capacity c.fill_to.new.frames) c.remove.new.self (record { holds = 1; bytes = c.zero_bytes-taken.result })
+    (rw c.fill_to.ensures.capacity c.self.invariant.fits) (count_seen is x read ∙ free.1) (omega arith)
     c.remove.ensures.this c.remove.ensures.others
 
 pub returns-clause-zero : goal.returns-clause-zero
@@ -67,8 +67,8 @@ returns-clause-zero g c = λ i small.
     let f = c.in-Some.frame in
     let free = least-is_free c.self.inside.free c.self.inside.free_count (seen all).holds f c.self.invariant.told
     c.in-Some.ensures.some in
-    let is = reached c.self.inside.frames.items c.reach.new.frames.items f c.self.inside.count c.self.invariant.few
-    free.0 c.reach.ensures.items in
+    let is = reached c.self.inside.frames.items c.fill_to.new.frames.items f c.self.inside.count c.self.invariant.few
+    free.0 c.fill_to.ensures.items in
     ap (λ (pool : FramePool). word_at pool f i) (returns-clause-ok g c)
     ∙ rw (← c.self.view_is) (given_zero (seen all) f i (in_bytes is) small)
 
@@ -115,9 +115,9 @@ index_mut-taken-requires g c =
     let f = c.in-Some.frame in
     let free = least-is_free c.self.inside.free c.self.inside.free_count (seen all).holds f c.self.invariant.told
     c.in-Some.ensures.some in
-    let is = reached c.self.inside.frames.items c.reach.new.frames.items f c.self.inside.count c.self.invariant.few
-    free.0 c.reach.ensures.items in
-    omega (arith, c.reach.new.frames.ok.0, is.within)
+    let is = reached c.self.inside.frames.items c.fill_to.new.frames.items f c.self.inside.count c.self.invariant.few
+    free.0 c.fill_to.ensures.items in
+    omega (arith, c.fill_to.new.frames.ok.0, is.within)
 
 pub zero_bytes-taken-requires : goal.zero_bytes-taken-requires
 zero_bytes-taken-requires g c = tt

@@ -9,8 +9,8 @@ use Rattle.frame_memory.proofs.pool.Pool.write.Goals as goal
 
 pub returns-clause-new : goal.returns-clause-new
 returns-clause-new g c =
-    let is = reached c.self.inside.frames.items c.reach.new.frames.items c.args.frame.0 c.self.inside.count
-    c.self.invariant.few (rw (← c.self.view_is) at c.requires.frame) c.reach.ensures.items in
+    let is = reached c.self.inside.frames.items c.fill_to.new.frames.items c.args.frame.0 c.self.inside.count
+    c.self.invariant.few (rw (← c.self.view_is) at c.requires.frame) c.fill_to.ensures.items in
     let x = c.index_mut.result.now in
     let read = c.index_mut.ensures.value in
     let offset = c.args.offset in
@@ -21,8 +21,8 @@ returns-clause-new g c =
 
 pub returns-clause-back : goal.returns-clause-back
 returns-clause-back g c =
-    let is = reached c.self.inside.frames.items c.reach.new.frames.items c.args.frame.0 c.self.inside.count
-    c.self.invariant.few (rw (← c.self.view_is) at c.requires.frame) c.reach.ensures.items in
+    let is = reached c.self.inside.frames.items c.fill_to.new.frames.items c.args.frame.0 c.self.inside.count
+    c.self.invariant.few (rw (← c.self.view_is) at c.requires.frame) c.fill_to.ensures.items in
     let x = c.index_mut.result.now in
     let read = c.index_mut.ensures.value in
     let pool = seen (all_frames c.self.inside.frames.items c.self.inside.count) in
@@ -34,8 +34,8 @@ returns-clause-back g c =
 
 pub returns-clause-others : goal.returns-clause-others
 returns-clause-others g c = λ other at len apart.
-    let is = reached c.self.inside.frames.items c.reach.new.frames.items c.args.frame.0 c.self.inside.count
-    c.self.invariant.few (rw (← c.self.view_is) at c.requires.frame) c.reach.ensures.items in
+    let is = reached c.self.inside.frames.items c.fill_to.new.frames.items c.args.frame.0 c.self.inside.count
+    c.self.invariant.few (rw (← c.self.view_is) at c.requires.frame) c.fill_to.ensures.items in
     let x = c.index_mut.result.now in
     let read = c.index_mut.ensures.value in
     let pool = seen (all_frames c.self.inside.frames.items c.self.inside.count) in
@@ -47,10 +47,10 @@ returns-clause-others g c = λ other at len apart.
 
 pub invariant_of-self : goal.invariant_of-self
 invariant_of-self g c =
-    let is = reached c.self.inside.frames.items c.reach.new.frames.items c.args.frame.0 c.self.inside.count
-    c.self.invariant.few (rw (← c.self.view_is) at c.requires.frame) c.reach.ensures.items in
+    let is = reached c.self.inside.frames.items c.fill_to.new.frames.items c.args.frame.0 c.self.inside.count
+    c.self.invariant.few (rw (← c.self.view_is) at c.requires.frame) c.fill_to.ensures.items in
     let x = c.index_mut.result.now in
     let read = c.index_mut.ensures.value in
     kept-written is x read c.self.inside.free c.self.inside.free_count c.self.invariant.told
-    (vec_capacity c.reach.new.frames) (record { holds = x.holds; bytes = c.overwrite.new.bytes })
-    (rw c.reach.ensures.capacity c.self.invariant.fits) refl
+    (vec_capacity c.fill_to.new.frames) (record { holds = x.holds; bytes = c.overwrite.new.bytes })
+    (rw c.fill_to.ensures.capacity c.self.invariant.fits) refl

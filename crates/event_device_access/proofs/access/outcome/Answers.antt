@@ -7,19 +7,19 @@ use Rattle.iofd_words.specs.Settings.{DeviceSettings, Settings}
 use Rattle.iofd_words.specs.Width.{bits_of}
 use Rattle.iofd_words.specs.declared.numbers.FrameNo.{FrameNo}
 use Rattle.iofd_words.specs.declared.rows.Attachment.{Attachment}
-use Rattle.event_device_access.specs.Outcomes.{given_outcome}
+use Rattle.event_device_access.specs.Outcomes.{chosen_outcome}
 use Rattle.event_device_access.proofs.Walked.{beyond_given, hit_given, missed_given, unattached_given, unright_given}
 use Rattle.server_state.proofs.ViewShown.{same_outcomes}
 use Rattle.server_state.specs.Leads.{leads_of}
 use Rattle.server_state.specs.Seen.{seen}
-use Rattle.event_device_access.proofs.access.given.Goals.{in_default-walk-via-in-Hit+else-allow}
-use Rattle.event_device_access.proofs.access.given.Goals.{in_default-walk-via-in_default-walk}
-use Rattle.event_device_access.proofs.access.given.Goals as goal
+use Rattle.event_device_access.proofs.access.outcome.Goals.{in_default-walk-via-in-Hit+else-allow}
+use Rattle.event_device_access.proofs.access.outcome.Goals.{in_default-walk-via-in_default-walk}
+use Rattle.event_device_access.proofs.access.outcome.Goals as goal
 
 pub returns-in_default-attachment_of : goal.returns-in_default-attachment_of
 returns-in_default-attachment_of g c =
     let s = c.args.state.now in
-    let uncached = ap (λ (o : Option FrameNo). given_outcome o (access_outcomes (seen s) c.args.device c.args.address
+    let uncached = ap (λ (o : Option FrameNo). chosen_outcome o (access_outcomes (seen s) c.args.device c.args.address
     c.args.kind)) c.in_default.is in
     sym (uncached ∙ unattached_given (seen s) c.args.device c.args.address c.args.kind
     (sym c.in_default-attachment_of.ensures))
@@ -27,7 +27,7 @@ returns-in_default-attachment_of g c =
 pub returns-then-is_beyond : goal.returns-then-is_beyond
 returns-then-is_beyond g c =
     let s = c.args.state.now in
-    let uncached = ap (λ (o : Option FrameNo). given_outcome o (access_outcomes (seen s) c.args.device c.args.address
+    let uncached = ap (λ (o : Option FrameNo). chosen_outcome o (access_outcomes (seen s) c.args.device c.args.address
     c.args.kind)) c.in_default.is in
     sym (uncached ∙ beyond_given (seen s) c.args.device c.args.address c.args.kind
     c.in-Some-attachment_of.attachment.now (sym c.in-Some-attachment_of.ensures)
@@ -48,9 +48,9 @@ returns-in-Hit g c =
     ap (λ (set : Settings). option_map_or (λ (d : DeviceSettings). leb (2 ^ bits_of d.width) c.args.address)
     (device_of set c.args.device) false) known.shows.settings
     ∙ sym c.is_beyond.ensures ∙ c.if-is_beyond.false in
-    let uncached = ap (λ (o : Option FrameNo). given_outcome o (access_outcomes (seen s) c.args.device c.args.address
+    let uncached = ap (λ (o : Option FrameNo). chosen_outcome o (access_outcomes (seen s) c.args.device c.args.address
     c.args.kind)) c.in_default.is in
-    let shown = ap (given_outcome None) (same_outcomes w s known.shows known.tidy.tabled.owned
+    let shown = ap (chosen_outcome None) (same_outcomes w s known.shows known.tidy.tabled.owned
     c.args.device c.args.address c.args.kind) in
     let passes = hit_given known.at w s known.tidy known.shows c.args.device a c.args.address small c.args.kind attached
     near c.in-Hit.frame c.in-Hit.rights (c.in-Hit.ensures w.table_frames (leads_of w) known.shows.tables.stand)
@@ -72,9 +72,9 @@ returns-in_default-walk g c =
     ap (λ (set : Settings). option_map_or (λ (d : DeviceSettings). leb (2 ^ bits_of d.width) c.args.address)
     (device_of set c.args.device) false) known.shows.settings
     ∙ sym c.is_beyond.ensures ∙ c.if-is_beyond.false in
-    let uncached = ap (λ (o : Option FrameNo). given_outcome o (access_outcomes (seen s) c.args.device c.args.address
+    let uncached = ap (λ (o : Option FrameNo). chosen_outcome o (access_outcomes (seen s) c.args.device c.args.address
     c.args.kind)) c.in_default.is in
-    let shown = ap (given_outcome None) (same_outcomes w s known.shows known.tidy.tabled.owned
+    let shown = ap (chosen_outcome None) (same_outcomes w s known.shows known.tidy.tabled.owned
     c.args.device c.args.address c.args.kind) in
     let told = ap Denied c.denied.ensures in
     elim c.in_default-walk.branch [

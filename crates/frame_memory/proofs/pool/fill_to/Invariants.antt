@@ -1,6 +1,6 @@
 use Rattle.std.proofs.Common.{◌≡◌, ◌≤◌, ◌+◌, ◌-◌, ◌++◌, length, replicate, vec_capacity, vec_len}
 use Rattle.frame_memory.specs.Kept.{fresh_frame}
-use Rattle.frame_memory.proofs.pool.reach.Given as goal
+use Rattle.frame_memory.proofs.pool.fill_to.Given as goal
 
 -- fresh frames so far
 abbrev pub invariant-loop-frames : goal.invariant-loop-frames
