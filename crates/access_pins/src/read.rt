@@ -3,10 +3,10 @@
 ghost use Rattle.std.specs.Prelude.{◌≡◌, ℕ, List, None};
 ghost use Rattle.iofd_words.specs.FirstTrue.{first_true};
 ghost use Rattle.iofd_steps.specs.Look.{lawful_answers, query_checks};
+ghost use Rattle.iofd_words.specs.Record.{Record};
 ghost use Rattle.iofd_words.specs.View.{view};
 ghost use Rattle.iofd_words.specs.World.{World};
 ghost use Rattle.iofd_words.specs.declared.query.Query.TheVariants as queries;
-ghost use Rattle.iofd_words.specs.declared.record.Record.{Record};
 ghost use Rattle.server_state.specs.Choice.{IsLooked};
 ghost use Rattle.server_state.specs.Seen.{seen};
 ghost use Rattle.server_state.specs.Shows.{Shows};

@@ -1,9 +1,9 @@
 -- What comes of a device's jobs.
 use Rattle.std.specs.Prelude.{◌≡◌, ℕ, ◌+◌, Some, None, Result, Ok, Err, List, [], ◌∷◌}
+use Rattle.iofd_words.specs.Record.{Record}
 use Rattle.iofd_words.specs.Settings.{Settings}
 use Rattle.iofd_words.specs.declared.event.Event.{Event}
 use Rattle.iofd_words.specs.declared.event.Event.TheVariants as event
-use Rattle.iofd_words.specs.declared.record.Record.{Record}
 use Rattle.iofd_words.specs.declared.refusal.NoMemory.{NoMemory}
 use Rattle.iofd_words.specs.declared.reply.Reply.{Reply}
 use Rattle.iommufd_core.specs.declared.apply.Stamp.{Stamp}

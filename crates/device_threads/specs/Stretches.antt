@@ -1,7 +1,7 @@
 -- What a pass makes from one moment to a later one, and where it stands.
 use Rattle.std.specs.Prelude.{◌≡◌, ℕ, Option, Some, None, List, [], ◌∷◌, ◌++◌, length, map}
+use Rattle.iofd_words.specs.Record.{Record}
 use Rattle.iofd_words.specs.Settings.{Settings}
-use Rattle.iofd_words.specs.declared.record.Record.{Record}
 use Rattle.lane_lock.specs.History.{StartsWith}
 use Rattle.lane_lock.specs.Passes.{view_of}
 use Rattle.guarded_core.specs.Entries.{history_of, told}

@@ -2,7 +2,7 @@
 use Rattle.std.proofs.Common.{◌≡◌, ℕ, zero, suc, Some, None, List, [], ◌∷◌, map, Contains, refl, sym, ◌∙◌, ap, subst}
 use Rattle.std.proofs.Common.{◌||◌, not, Bool, true, false, arith, cond, eqb, is_some}
 use Rattle.std.proofs.lemmas.Bool.Decides.{nat_tests}
-use Rattle.iofd_words.specs.declared.record.Record.{Record}
+use Rattle.iofd_words.specs.Record.{Record}
 use Rattle.event_device_access.proofs.DeviceWrites.{given_is}
 use Rattle.server_state.specs.Choice.{IsLooked, is_denial, is_fault}
 use Rattle.std.specs.List.{find, list_all, list_any}

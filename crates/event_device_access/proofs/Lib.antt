@@ -1,5 +1,6 @@
 pub mod ByWalk
 pub mod DeviceReads
 pub mod DeviceWrites
+pub mod FirstMarks
 pub mod Translated
 pub mod Walked

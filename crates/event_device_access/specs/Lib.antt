@@ -1,2 +1,3 @@
+pub mod FirstMark
 pub mod Outcomes
 pub mod Tracked

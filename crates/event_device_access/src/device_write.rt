@@ -8,11 +8,13 @@ ghost use Rattle.iofd_refusals.specs.Checks.{device_write_checks};
 ghost use Rattle.iofd_words.specs.Dirty.{TrackedTable, marked_by};
 ghost use Rattle.iofd_words.specs.FirstTrue.{first_true};
 ghost use Rattle.iofd_words.specs.Policy as policy;
+ghost use Rattle.iofd_words.specs.World.{World};
 ghost use Rattle.iofd_words.specs.declared.event.Event.TheVariants as event;
+ghost use Rattle.event_device_access.specs.FirstMark.{is_first_mark, takes_mark};
 ghost use Rattle.event_device_access.specs.Tracked.{tracks_writes_of};
 ghost use Rattle.server_state.specs.Seen.{seen};
-ghost use Rattle.server_state.specs.Shows.{DirtyShown};
-ghost use Rattle.server_state.specs.Step.{ChosenSteps, IsGrantedVia, IsKnown, ShowsSame};
+ghost use Rattle.server_state.specs.Shows.{DirtyShown, Shows};
+ghost use Rattle.server_state.specs.Step.{ChosenSteps, IsGrantedVia, IsKnown, IsTidy, ShowsSame};
 
 use crate::access;
 use iofd_words::{
@@ -67,7 +69,8 @@ fn source_of<A: Allocator>(config: &Config<A>, device: DeviceNo) -> SourceId
 /// where the policy lets it, and is denied while the device owes the area a flush. Where it passes, the page is marked
 /// if the device's page table is tracked.
 ///
-/// The only error is want of memory for the mark, where the page table is tracked. It leaves the world as it was.
+/// The only error is want of memory for the mark, where the write may pass, the page table is tracked and no page of
+/// the same word of 64 is marked there. It leaves the world as it was.
 ///
 /// It is part of its caller, so that its reply isn't read back from memory while the bytes that it writes are still on
 /// their way to the cache.
@@ -84,6 +87,8 @@ pub fn commit<A: Allocator + Copy>(
         ChosenSteps at (event.DeviceWrite device iova bytes.now) via state.old reply state.new) }
     ensures err { OnErr result (ShowsSame state.old state.new) }
     ensures memory { OnErr result (IsTrue (tracks_writes_of (seen state.old) device)) }
+    ensures lacking { OnErr result ((at : ℕ) (w : World) → IsTidy at w → Shows w state.old →
+        IsTrue (takes_mark w device iova.0)) }
 {
     match access::outcome(state, device, iova.0, AccessKind::Write, via) {
         Ok(frame) => {
@@ -102,7 +107,8 @@ pub fn commit<A: Allocator + Copy>(
     }
 }
 
-/// Marks the page of the address, where the page table by which the device translates is tracked.
+/// Marks the page of the address, where the page table by which the device translates is tracked. Memory is wanting
+/// only for the first mark of its word of 64 pages.
 fn mark<A: Allocator + Copy>(
     state: &mut State<A>,
     device: DeviceNo,
@@ -115,6 +121,8 @@ fn mark<A: Allocator + Copy>(
         state.new.dirty) }
     ensures err { OnErr result (state.new ≡ state.old) }
     ensures memory { OnErr result (IsTrue (tracks_writes_of (seen state.old) device)) }
+    ensures lacking { OnErr result ((tracked : List TrackedTable) → DirtyShown tracked state.old.dirty
+        → IsTrue (is_first_mark (attachment_of state.old.attachments.items device) (iova.0 / 4096) tracked)) }
 {
     let Some(attachment) = state.attachment_of(device) else {
         // A device that isn't attached writes nothing.

@@ -2,10 +2,10 @@
 use Rattle.std.proofs.Common.{append_assoc}
 use Rattle.std.proofs.Common.{◌≡◌, List, [], ◌∷◌, ◌++◌, length, map, refl, ap, ◌∙◌, Result, Ok, Err, IfOk}
 use Rattle.std.proofs.lemmas.List.{map-append}
+use Rattle.iofd_words.specs.Record.{Record}
 use Rattle.iofd_words.specs.Settings.{Settings}
 use Rattle.iofd_words.specs.declared.event.Event.{Event}
 use Rattle.iofd_words.specs.declared.numbers.PassNo.{PassNo}
-use Rattle.iofd_words.specs.declared.record.Record.{Record}
 use Rattle.iofd_words.specs.declared.refusal.NoMemory.{NoMemory}
 use Rattle.iommufd_core.specs.History.{HasOneMore, History}
 use Rattle.iommufd_core.specs.declared.apply.Stamp.{Stamp}

@@ -12,6 +12,7 @@ use Rattle.iofd_steps.specs.Look.{passes_in}
 use Rattle.iofd_words.specs.Pages.{crosses, page_of}
 use Rattle.iofd_words.specs.Rights.{has_right}
 use Rattle.iofd_steps.specs.Run.{IsRun}
+use Rattle.iofd_words.specs.Record.{Record}
 use Rattle.iofd_words.specs.Settings.{Settings}
 use Rattle.iofd_words.specs.Turns.{turns_of}
 use Rattle.iofd_words.specs.View.{view}
@@ -19,7 +20,6 @@ use Rattle.iofd_words.specs.Walk.{translation}
 use Rattle.iofd_words.specs.declared.fault.AccessKind.{AccessKind}
 use Rattle.iofd_words.specs.declared.numbers.DeviceNo.{DeviceNo}
 use Rattle.iofd_words.specs.declared.query.Translation.{Translation}
-use Rattle.iofd_words.specs.declared.record.Record.{Record}
 use Rattle.iofd_interleavings.proofs.Interleaved.{every_interleaving}
 use Rattle.iofd_interleavings.specs.Caches.{Entry as CacheEntry, IsBacked}
 use Rattle.iofd_interleavings.specs.Interleavings.{EveryInterleaving}

@@ -1,7 +1,7 @@
 -- What a core tells through its lock: first what it was opened with, and then its records.
 use Rattle.std.specs.Prelude.{ℕ, List, ◌∷◌, map}
+use Rattle.iofd_words.specs.Record.{Record}
 use Rattle.iofd_words.specs.Settings.{Settings}
-use Rattle.iofd_words.specs.declared.record.Record.{Record}
 use Rattle.iommufd_core.specs.History.{History}
 use Rattle.guarded_core.specs.declared.kept_core.Entry.{Entry}
 use Rattle.guarded_core.specs.declared.kept_core.Entry.TheVariants as entry

@@ -7,10 +7,10 @@ use Rattle.iofd_examples.specs.Words.{Questions, access_attach, access_create, a
 use Rattle.iofd_examples.specs.Words.{answers_frame, answers_id, answers_iova, area_row, bind, close, count, destroy}
 use Rattle.iofd_examples.specs.Words.{device_row, file, held, id, ioas_alloc, ioas_row, map_in, memory_row, moving}
 use Rattle.iofd_examples.specs.Words.{page_row, refused, step, unmap_in, user_map}
+use Rattle.iofd_words.specs.Record.{Record}
 use Rattle.iofd_words.specs.Settings.{Settings}
 use Rattle.iofd_words.specs.World.{World, opening}
 use Rattle.iofd_words.specs.declared.query.Query.TheVariants.{FreeFrames}
-use Rattle.iofd_words.specs.declared.record.Record.{Record}
 use Rattle.iofd_words.specs.declared.refusal.Cause.TheVariants as cause
 use Rattle.iofd_words.specs.declared.refusal.Errno.TheVariants.{EAGAIN}
 use Rattle.iofd_words.specs.declared.reply.Reply.TheVariants as reply

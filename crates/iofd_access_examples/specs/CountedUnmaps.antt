@@ -5,9 +5,9 @@ use Rattle.std.specs.List.{range_with_len}
 use Rattle.std.specs.declared.alloc.Global.{Global}
 use Rattle.iofd_examples.specs.DebtScript.{with_phases}
 use Rattle.iofd_examples.specs.Words.{refused, step, unmap_in}
+use Rattle.iofd_words.specs.Record.{Record}
 use Rattle.iofd_words.specs.World.{World}
 use Rattle.iofd_words.specs.declared.event.Event.{Event}
-use Rattle.iofd_words.specs.declared.record.Record.{Record}
 use Rattle.iofd_words.specs.declared.refusal.Cause.TheVariants as cause
 use Rattle.iofd_words.specs.declared.refusal.Errno.TheVariants.{EAGAIN, EDEADLOCK}
 use Rattle.iofd_words.specs.declared.reply.Reply.TheVariants as reply

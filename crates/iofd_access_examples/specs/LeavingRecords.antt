@@ -8,8 +8,8 @@ use Rattle.std.specs.declared.alloc.Global.{Global}
 use Rattle.iofd_examples.specs.ReadyWorld.{ready}
 use Rattle.iofd_examples.specs.Words.{Refusals, answers_id, area_row, attach, destroy, file, hwpt_alloc, ioas_row}
 use Rattle.iofd_examples.specs.Words.{moving, refused, step}
+use Rattle.iofd_words.specs.Record.{Record}
 use Rattle.iofd_words.specs.World.{World}
-use Rattle.iofd_words.specs.declared.record.Record.{Record}
 use Rattle.iofd_words.specs.declared.refusal.Cause.TheVariants as cause
 use Rattle.iofd_words.specs.declared.rows.Phase.TheVariants.{Leaving, Live}
 

@@ -11,10 +11,10 @@ use Rattle.iofd_examples.specs.Words.{answers_id, answers_iova, area_row, bind, 
 use Rattle.iofd_examples.specs.Words.{device_row, from_to, held, hwpt_alloc, hwpt_row, id, ioas_alloc, ioas_row, map_in}
 use Rattle.iofd_examples.specs.Words.{memory_row, moving, page_row, passed, pin_row, refused, refused_look, step}
 use Rattle.iofd_examples.specs.Words.{table_row, unmap_in, user_map, user_read, user_unmap, user_write}
+use Rattle.iofd_words.specs.Record.{Record}
 use Rattle.iofd_words.specs.Settings.{Settings}
 use Rattle.iofd_words.specs.World.{World, opening}
 use Rattle.iofd_words.specs.declared.query.Query.TheVariants.{FreeFrames}
-use Rattle.iofd_words.specs.declared.record.Record.{Record}
 use Rattle.iofd_words.specs.declared.refusal.Cause.TheVariants as cause
 use Rattle.iofd_words.specs.declared.refusal.Errno.TheVariants.{EAGAIN}
 use Rattle.iofd_words.specs.declared.reply.Reply.TheVariants as reply

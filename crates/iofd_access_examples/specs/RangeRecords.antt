@@ -6,9 +6,9 @@ use Rattle.iofd_examples.specs.SecondScript.{shared}
 use Rattle.iofd_examples.specs.Words.{Refusals, allow_iovas, answers_iova, area_row, file, from_to, id, map_in, step}
 use Rattle.iofd_examples.specs.Words.{unmap_in}
 use Rattle.iofd_words.specs.Bounds.{Bounds}
+use Rattle.iofd_words.specs.Record.{Record}
 use Rattle.iofd_words.specs.Settings.{Settings}
 use Rattle.iofd_words.specs.World.{World}
-use Rattle.iofd_words.specs.declared.record.Record.{Record}
 use Rattle.iofd_words.specs.declared.refusal.Cause.TheVariants as cause
 use Rattle.iofd_words.specs.declared.reply.Reply.TheVariants as reply
 use Rattle.iofd_words.specs.declared.rows.Phase.TheVariants.{Live}

@@ -6,9 +6,9 @@ use Rattle.iofd_examples.specs.Words.{answers_frame, answers_id, answers_iova, a
 use Rattle.iofd_examples.specs.Words.{close, detach, device_row, file, flush, hwpt_alloc, hwpt_row, ioas_alloc}
 use Rattle.iofd_examples.specs.Words.{map_in, memory_row, moving, page_row, pin_row, step, table_row, unbind, unmap_in}
 use Rattle.iofd_examples.specs.Words.{ioas_row, user_map}
+use Rattle.iofd_words.specs.Record.{Record}
 use Rattle.iofd_words.specs.Settings.{DeviceSettings, Settings}
 use Rattle.iofd_words.specs.World.{World, opening}
-use Rattle.iofd_words.specs.declared.record.Record.{Record}
 use Rattle.iofd_words.specs.declared.refusal.Errno.TheVariants.{EAGAIN}
 use Rattle.iofd_words.specs.declared.reply.Reply.TheVariants as reply
 use Rattle.iofd_words.specs.declared.rows.Phase.{Phase}

@@ -9,11 +9,11 @@ use Rattle.iofd_examples.specs.Words.{Questions, answers_frame, answers_id, answ
 use Rattle.iofd_examples.specs.Words.{attachment_row, bind, destroy, detach, device_row, device_write, fault}
 use Rattle.iofd_examples.specs.Words.{hwpt_alloc, hwpt_row, ioas_alloc, ioas_row, map_in, memory_row, moving}
 use Rattle.iofd_examples.specs.Words.{page_row, passed, pin_row, refused, step, table_row, user_map, user_write}
+use Rattle.iofd_words.specs.Record.{Record}
 use Rattle.iofd_words.specs.Settings.{DeviceSettings, Settings}
 use Rattle.iofd_words.specs.World.{World, opening}
 use Rattle.iofd_words.specs.declared.fault.AccessKind.TheVariants.{Write}
 use Rattle.iofd_words.specs.declared.fault.FaultReason.TheVariants.{WriteDenied}
-use Rattle.iofd_words.specs.declared.record.Record.{Record}
 use Rattle.iofd_words.specs.declared.refusal.Cause.TheVariants as cause
 use Rattle.iofd_words.specs.declared.reply.Reply.TheVariants as reply
 use Rattle.iofd_words.specs.declared.rows.Phase.TheVariants.{Live}

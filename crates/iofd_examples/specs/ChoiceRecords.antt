@@ -6,8 +6,8 @@ use Rattle.iofd_examples.specs.DebtScript.{gone, none_owes}
 use Rattle.iofd_examples.specs.Words.{answers_frame, answers_id, answers_iova, area_row, attach, bind, copy_in, detach}
 use Rattle.iofd_examples.specs.Words.{flush, hwpt_alloc, hwpt_row, ioas_alloc, ioas_row, map_in, memory_row, moving}
 use Rattle.iofd_examples.specs.Words.{refused, step, table_row, unmap_in, user_map, user_unmap}
+use Rattle.iofd_words.specs.Record.{Record}
 use Rattle.iofd_words.specs.World.{World}
-use Rattle.iofd_words.specs.declared.record.Record.{Record}
 use Rattle.iofd_words.specs.declared.refusal.Cause.TheVariants as cause
 use Rattle.iofd_words.specs.declared.refusal.Errno.TheVariants.{EAGAIN, EDEADLOCK}
 use Rattle.iofd_words.specs.declared.reply.Reply.TheVariants as reply

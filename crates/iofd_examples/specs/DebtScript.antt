@@ -7,6 +7,7 @@ use Rattle.iofd_examples.specs.Words.{Questions, Writes, answers_frame, answers_
 use Rattle.iofd_examples.specs.Words.{attachment_row, bind, bytes, count, detach, device_read, device_row, fault, flush}
 use Rattle.iofd_examples.specs.Words.{hwpt_row, ioas_alloc, ioas_row, map_in, memory_row, moving, page_row, passed}
 use Rattle.iofd_examples.specs.Words.{pin_row, step, table_row, unmap_in, user_map}
+use Rattle.iofd_words.specs.Record.{Record}
 use Rattle.iofd_words.specs.Settings.{DeviceSettings, Settings}
 use Rattle.iofd_words.specs.World.{World}
 use Rattle.iofd_words.specs.declared.fault.AccessKind.TheVariants.{Read, Write}
@@ -14,7 +15,6 @@ use Rattle.iofd_words.specs.declared.fault.FaultReason.TheVariants.{NoContext, R
 use Rattle.iofd_words.specs.declared.query.Answer.{Answer}
 use Rattle.iofd_words.specs.declared.query.Answer.TheVariants as answer
 use Rattle.iofd_words.specs.declared.query.Query.TheVariants.{FreeFrames}
-use Rattle.iofd_words.specs.declared.record.Record.{Record}
 use Rattle.iofd_words.specs.declared.refusal.Errno.TheVariants.{EAGAIN}
 use Rattle.iofd_words.specs.declared.reply.Reply.{Reply}
 use Rattle.iofd_words.specs.declared.reply.Reply.TheVariants as reply

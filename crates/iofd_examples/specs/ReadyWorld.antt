@@ -8,9 +8,9 @@ use Rattle.iofd_examples.specs.Words.{attachment_row, bind, device_row, file, fr
 use Rattle.iofd_examples.specs.Words.{ioas_alloc, ioas_row, map_in, memory_row, moving, page_row, pin_row, step}
 use Rattle.iofd_examples.specs.Words.{table_row, user_map}
 use Rattle.iofd_words.specs.Bounds.{Bounds}
+use Rattle.iofd_words.specs.Record.{Record}
 use Rattle.iofd_words.specs.Settings.{DeviceSettings, Settings}
 use Rattle.iofd_words.specs.World.{World, opening}
-use Rattle.iofd_words.specs.declared.record.Record.{Record}
 use Rattle.iofd_words.specs.declared.reply.Reply.TheVariants as reply
 use Rattle.iofd_words.specs.declared.rows.Object.{Object}
 use Rattle.iofd_words.specs.declared.rows.Phase.TheVariants.{Live}

@@ -10,11 +10,11 @@ use Rattle.iofd_examples.specs.Words.{attachment_row, bind, close, copy_in, dest
 use Rattle.iofd_examples.specs.Words.{fault, file, flush, from_to, hwpt_alloc, hwpt_row, id, ioas_alloc, ioas_row}
 use Rattle.iofd_examples.specs.Words.{map_in, memory_row, moving, page_row, passed, pin_row, step, table_row, unbind}
 use Rattle.iofd_examples.specs.Words.{unmap_in, user_map, user_unmap, user_write}
+use Rattle.iofd_words.specs.Record.{Record}
 use Rattle.iofd_words.specs.Settings.{Settings}
 use Rattle.iofd_words.specs.World.{World}
 use Rattle.iofd_words.specs.declared.fault.AccessKind.TheVariants.{Write}
 use Rattle.iofd_words.specs.declared.fault.FaultReason.TheVariants.{WriteDenied}
-use Rattle.iofd_words.specs.declared.record.Record.{Record}
 use Rattle.iofd_words.specs.declared.refusal.Errno.TheVariants.{EAGAIN}
 use Rattle.iofd_words.specs.declared.reply.Reply.TheVariants as reply
 use Rattle.iofd_words.specs.declared.rows.Phase.TheVariants.{Live, Leaving}

@@ -9,6 +9,7 @@ use Rattle.iofd_refusals.specs.Checks.{checks, refusal}
 use Rattle.iofd_steps.specs.Look.{answers_in, notices_checks, query_checks, ranges_checks}
 use Rattle.iofd_words.specs.Policy.{outcomes}
 use Rattle.iofd_steps.specs.Run.{Lawful}
+use Rattle.iofd_words.specs.Record.{Record}
 use Rattle.iofd_words.specs.View.{view}
 use Rattle.iofd_words.specs.World.{World}
 use Rattle.iofd_words.specs.declared.event.Event.{Event}
@@ -28,7 +29,6 @@ use Rattle.iofd_words.specs.declared.query.Answer.{Answer}
 use Rattle.iofd_words.specs.declared.query.Answer.TheVariants as answer
 use Rattle.iofd_words.specs.declared.query.Query.{Query}
 use Rattle.iofd_words.specs.declared.query.Query.TheVariants.{AccessRead, DeviceRead, Held, UserRead}
-use Rattle.iofd_words.specs.declared.record.Record.{Record}
 use Rattle.iofd_words.specs.declared.refusal.Cause.{Cause}
 use Rattle.iofd_words.specs.declared.reply.Reply.{Reply}
 use Rattle.iofd_words.specs.declared.reply.Reply.TheVariants as reply

@@ -10,6 +10,7 @@ use Rattle.iofd_steps.specs.Look.{answers_in, answers_to, cached_answers, read_a
 use Rattle.iofd_words.specs.Pages.{offset_of}
 use Rattle.iofd_words.specs.Policy.{Passes, is_pass_at, outcomes}
 use Rattle.iofd_steps.specs.Run.{IsAnswer, IsRun, Lawful, world_of}
+use Rattle.iofd_words.specs.Record.{Record}
 use Rattle.iofd_words.specs.Settings.{Settings}
 use Rattle.iofd_words.specs.View.{view}
 use Rattle.iofd_words.specs.World.{World}
@@ -23,7 +24,6 @@ use Rattle.iofd_words.specs.declared.query.Answer.{Answer}
 use Rattle.iofd_words.specs.declared.query.Answer.TheVariants as answer
 use Rattle.iofd_words.specs.declared.query.Query.{Query}
 use Rattle.iofd_words.specs.declared.query.Query.TheVariants.{CachedRead, DeviceRead}
-use Rattle.iofd_words.specs.declared.record.Record.{Record}
 use Rattle.iofd_words.specs.declared.refusal.Cause.{Cause}
 use Rattle.iofd_words.specs.declared.reply.Reply.{Reply}
 use Rattle.iofd_words.specs.declared.reply.Reply.TheVariants as reply

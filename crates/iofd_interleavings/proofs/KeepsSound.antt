@@ -7,6 +7,7 @@ use Rattle.iofd_refusals.specs.Checks.{access_checks, device_write_checks, refus
 use Rattle.iofd_words.specs.FirstTrue.{first_true}
 use Rattle.iofd_words.specs.Policy.{Passes, is_pass_at, outcomes}
 use Rattle.iofd_steps.specs.Run.{IsAnswer, IsRun, Lawful, MovesFrames, world_of}
+use Rattle.iofd_words.specs.Record.{Record}
 use Rattle.iofd_words.specs.Settings.{Settings}
 use Rattle.iofd_words.specs.Turns.{is_turn_of}
 use Rattle.iofd_words.specs.View.{view}
@@ -15,7 +16,6 @@ use Rattle.iofd_words.specs.declared.fault.AccessKind.TheVariants.{Write}
 use Rattle.iofd_words.specs.declared.numbers.DeviceNo.{DeviceNo}
 use Rattle.iofd_words.specs.declared.numbers.Iova.{Iova}
 use Rattle.iofd_words.specs.declared.numbers.PassNo.{PassNo}
-use Rattle.iofd_words.specs.declared.record.Record.{Record}
 use Rattle.iofd_words.specs.declared.refusal.Cause.{Cause}
 use Rattle.iofd_rows.proofs.Bools.{and_true}
 use Rattle.iofd_rows.proofs.Each.{IsIn, in_filter}

@@ -2,9 +2,9 @@
 use Rattle.std.proofs.Common.{◌≡◌, ◌+◌, List, [], ◌∷◌, ◌++◌, length, map, refl, sym, ap, ◌∙◌, subst, arith}
 use Rattle.std.proofs.lemmas.List.{append-nil, append_assoc}
 use Rattle.iofd_steps.specs.Run.{IsRun, Lawful, world_from, world_of}
+use Rattle.iofd_words.specs.Record.{Record}
 use Rattle.iofd_words.specs.Settings.{Settings}
 use Rattle.iofd_words.specs.World.{opening}
-use Rattle.iofd_words.specs.declared.record.Record.{Record}
 use Rattle.iofd_runs.proofs.Runs.{lawful_at}
 use Rattle.iofd_interleavings.specs.Steps.{AreSteps, AreStepsFrom, Made, State, Step, made_by, state_after, state_from}
 

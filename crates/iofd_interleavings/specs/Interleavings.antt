@@ -3,6 +3,7 @@ use Rattle.std.specs.Prelude.{◌≡◌, ℕ, Some, None, List, [], ◌∷◌, �
 use Rattle.iofd_words.specs.Attachments.{attachment_of}
 use Rattle.iofd_steps.specs.Look.{passes_in}
 use Rattle.iofd_steps.specs.Run.{IsRun, world_of}
+use Rattle.iofd_words.specs.Record.{Record}
 use Rattle.iofd_words.specs.Settings.{Settings}
 use Rattle.iofd_words.specs.Turns.{turns_of}
 use Rattle.iofd_words.specs.View.{view}
@@ -12,7 +13,6 @@ use Rattle.iofd_words.specs.declared.numbers.DeviceNo.{DeviceNo}
 use Rattle.iofd_words.specs.declared.numbers.FrameNo.{FrameNo}
 use Rattle.iofd_words.specs.declared.numbers.Iova.{Iova}
 use Rattle.iofd_words.specs.declared.query.Translation.{Translation}
-use Rattle.iofd_words.specs.declared.record.Record.{Record}
 use Rattle.iofd_interleavings.specs.Caches.{Entry, Sound}
 use Rattle.iofd_interleavings.specs.DeviceAnswers.{Allows, DeviceAnswer, device_answer}
 use Rattle.iofd_interleavings.specs.FramesApart.{FramesApart, GivesOut, IsNobodys}

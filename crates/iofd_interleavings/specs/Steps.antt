@@ -5,6 +5,7 @@ use Rattle.iofd_steps.specs.Look.{answers_to}
 use Rattle.iofd_words.specs.Pages.{crosses, page_of}
 use Rattle.iofd_words.specs.Rights.{has_right}
 use Rattle.iofd_steps.specs.Run.{Lawful, world_of}
+use Rattle.iofd_words.specs.Record.{Record}
 use Rattle.iofd_words.specs.Settings.{Settings}
 use Rattle.iofd_words.specs.Turns.{is_turn_of}
 use Rattle.iofd_words.specs.World.{World}
@@ -18,7 +19,6 @@ use Rattle.iofd_words.specs.declared.numbers.PassNo.{PassNo}
 use Rattle.iofd_words.specs.declared.query.Answer.{Answer}
 use Rattle.iofd_words.specs.declared.query.Query.{Query}
 use Rattle.iofd_words.specs.declared.query.Translation.{Translation}
-use Rattle.iofd_words.specs.declared.record.Record.{Record}
 use Rattle.iofd_words.specs.declared.reply.Reply.TheVariants as reply
 use Rattle.iofd_words.specs.declared.rows.Phase.TheVariants.{Live}
 use Rattle.iofd_interleavings.specs.Caches.{Caches, Entry, IsBacked}

@@ -4,8 +4,8 @@
 
 ghost use Rattle.std.specs.Prelude.{◌≡◌, List, map};
 ghost use Rattle.iofd_steps.specs.Run.{IsRun};
+ghost use Rattle.iofd_words.specs.Record.{Record};
 ghost use Rattle.iofd_words.specs.Settings.{Settings};
-ghost use Rattle.iofd_words.specs.declared.record.Record.{Record};
 ghost use Rattle.iofd_interleavings.specs.Interleavings.{EveryInterleaving};
 ghost use Rattle.iofd_interleavings.specs.Steps.{AreSteps, Made, records_after};
 

@@ -5,10 +5,10 @@ use Rattle.iofd_steps.specs.After.{changed, settle}
 use Rattle.iofd_refusals.specs.Checks.{refusal}
 use Rattle.iofd_words.specs.Pins.{ObjectPage, frame_now, is_page, pinned_frame, pinned_pages}
 use Rattle.iofd_steps.specs.Run.{after, after_answer}
+use Rattle.iofd_words.specs.Record.{Record}
 use Rattle.iofd_words.specs.Tables.{with_tables}
 use Rattle.iofd_words.specs.World.{World}
 use Rattle.iofd_words.specs.declared.numbers.FrameNo.{FrameNo}
-use Rattle.iofd_words.specs.declared.record.Record.{Record}
 use Rattle.iofd_words.specs.declared.refusal.Cause.{Cause}
 use Rattle.iofd_laws.specs.Laws.{PinMoves, pin_moves}
 use Rattle.iofd_rows.proofs.PinsFollow.{settled_at, settled_frame}

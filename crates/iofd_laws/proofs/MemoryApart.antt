@@ -10,6 +10,7 @@ use Rattle.iofd_words.specs.Objects.{has_hwpt, is_hwpt_over, objects_of}
 use Rattle.iofd_words.specs.Pins.{ObjectPage, is_page, is_translated, pinned_frame, pinned_pages}
 use Rattle.iofd_words.specs.Pins.{is_accessed, is_pinned}
 use Rattle.iofd_steps.specs.Run.{after, after_answer}
+use Rattle.iofd_words.specs.Record.{Record}
 use Rattle.iofd_words.specs.Span.{size_of}
 use Rattle.iofd_words.specs.Tables.{with_tables}
 use Rattle.iofd_words.specs.World.{World}
@@ -17,7 +18,6 @@ use Rattle.iofd_words.specs.declared.event.Event.{Event}
 use Rattle.iofd_words.specs.declared.numbers.FileNo.{FileNo}
 use Rattle.iofd_words.specs.declared.numbers.FrameNo.{FrameNo}
 use Rattle.iofd_words.specs.declared.numbers.ObjId.{ObjId}
-use Rattle.iofd_words.specs.declared.record.Record.{Record}
 use Rattle.iofd_words.specs.declared.refusal.Cause.{Cause}
 use Rattle.iofd_words.specs.declared.reply.Reply.{Reply}
 use Rattle.iofd_words.specs.declared.rows.Area.{Area}

@@ -10,6 +10,7 @@ use Rattle.iofd_refusals.specs.Checks.{refusal}
 use Rattle.iofd_words.specs.Objects.{has_hwpt}
 use Rattle.iofd_words.specs.Pins.{ObjectPage, frame_now, is_page, is_translated, pinned_frame, pinned_pages, is_pinned}
 use Rattle.iofd_steps.specs.Run.{after, after_answer}
+use Rattle.iofd_words.specs.Record.{Record}
 use Rattle.iofd_words.specs.Tables.{with_tables}
 use Rattle.iofd_words.specs.World.{World}
 use Rattle.iofd_words.specs.declared.event.Event.{Event}
@@ -17,7 +18,6 @@ use Rattle.iofd_words.specs.declared.event.Event.TheVariants as event
 use Rattle.iofd_words.specs.declared.event.UnmapRequest.{UnmapRequest}
 use Rattle.iofd_words.specs.declared.numbers.FileNo.{FileNo}
 use Rattle.iofd_words.specs.declared.numbers.FrameNo.{FrameNo}
-use Rattle.iofd_words.specs.declared.record.Record.{Record}
 use Rattle.iofd_words.specs.declared.refusal.Cause.{Cause}
 use Rattle.iofd_words.specs.declared.reply.Reply.{Reply}
 use Rattle.iofd_words.specs.declared.reply.Reply.TheVariants as reply

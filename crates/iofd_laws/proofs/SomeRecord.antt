@@ -17,6 +17,7 @@ use Rattle.iofd_words.specs.Frames.{free_count, is_free}
 use Rattle.iofd_words.specs.Objects.{automatic_hwpt, binding_of, is_fresh, kind_of, settings_under}
 use Rattle.iofd_words.specs.Objects.{with_object}
 use Rattle.iofd_steps.specs.Run.{IsAnswer, Lawful, MovesFrames}
+use Rattle.iofd_words.specs.Record.{Record}
 use Rattle.iofd_words.specs.Settings.{DeviceSettings}
 use Rattle.iofd_words.specs.Span.{span_from}
 use Rattle.iofd_words.specs.TablePlaces.{lacking, live_pages, places_of}
@@ -34,7 +35,6 @@ use Rattle.iofd_words.specs.declared.numbers.FrameNo.{FrameNo}
 use Rattle.iofd_words.specs.declared.numbers.Iova.{Iova}
 use Rattle.iofd_words.specs.declared.numbers.ObjId.{ObjId}
 use Rattle.iofd_words.specs.declared.numbers.UserNo.{UserNo}
-use Rattle.iofd_words.specs.declared.record.Record.{Record}
 use Rattle.iofd_words.specs.declared.reply.Reply.{Reply}
 use Rattle.iofd_words.specs.declared.reply.Reply.TheVariants as reply
 use Rattle.iofd_words.specs.declared.rows.Area.{Area}

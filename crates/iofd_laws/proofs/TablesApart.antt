@@ -10,6 +10,7 @@ use Rattle.iofd_words.specs.Areas.{areas_of, is_of}
 use Rattle.iofd_refusals.specs.Checks.{refusal}
 use Rattle.iofd_words.specs.Objects.{is_hwpt, is_object, kind_of, objects_of}
 use Rattle.iofd_steps.specs.Run.{Lawful, MovesFrames, after, after_answer}
+use Rattle.iofd_words.specs.Record.{Record}
 use Rattle.iofd_words.specs.TablePlaces.{TablePlace, has_table, is_place, is_table_of, live_pages, place_of, places_of}
 use Rattle.iofd_words.specs.Tables.{MissingTable, MovesTables, in_frames, is_among, is_orphan, kept_tables, may_go}
 use Rattle.iofd_words.specs.Tables.{missing_of, missing_tables, with_tables}
@@ -19,7 +20,6 @@ use Rattle.iofd_words.specs.declared.event.Event.TheVariants as event
 use Rattle.iofd_words.specs.declared.numbers.FileNo.{FileNo}
 use Rattle.iofd_words.specs.declared.numbers.FrameNo.{FrameNo}
 use Rattle.iofd_words.specs.declared.numbers.ObjId.{ObjId}
-use Rattle.iofd_words.specs.declared.record.Record.{Record}
 use Rattle.iofd_words.specs.declared.refusal.Cause.{Cause}
 use Rattle.iofd_words.specs.declared.reply.Reply.{Reply}
 use Rattle.iofd_words.specs.declared.reply.Reply.TheVariants as reply

@@ -15,6 +15,7 @@ use Rattle.iofd_words.specs.Pages.{page_of}
 use Rattle.iofd_words.specs.Pins.{ObjectPage, frame_now, held_by, pinned_frame}
 use Rattle.iofd_words.specs.Rights.{is_fixed}
 use Rattle.iofd_steps.specs.Run.{Lawful}
+use Rattle.iofd_words.specs.Record.{Record}
 use Rattle.iofd_words.specs.Span.{holds}
 use Rattle.iofd_words.specs.TablePlaces.{has_table, is_live, root_place}
 use Rattle.iofd_words.specs.Tables.{is_orphan}
@@ -26,7 +27,6 @@ use Rattle.iofd_words.specs.declared.numbers.FileNo.{FileNo}
 use Rattle.iofd_words.specs.declared.numbers.FrameNo.{FrameNo}
 use Rattle.iofd_words.specs.declared.numbers.ObjId.{ObjId}
 use Rattle.iofd_words.specs.declared.numbers.UserNo.{UserNo}
-use Rattle.iofd_words.specs.declared.record.Record.{Record}
 use Rattle.iofd_words.specs.declared.rows.Area.{Area}
 use Rattle.iofd_words.specs.declared.rows.Attachment.{Attachment}
 use Rattle.iofd_words.specs.declared.rows.MemoryObject.{MemoryObject}

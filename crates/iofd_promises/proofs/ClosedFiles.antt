@@ -14,6 +14,7 @@ use Rattle.iofd_refusals.specs.Checks.{dirty_checks, dirty_enable_checks}
 use Rattle.iofd_words.specs.Files.{is_open, user_of}
 use Rattle.iofd_words.specs.FirstTrue.{first_true}
 use Rattle.iofd_steps.specs.Run.{IsRun, world_of}
+use Rattle.iofd_words.specs.Record.{Record}
 use Rattle.iofd_words.specs.Settings.{Settings}
 use Rattle.iofd_words.specs.Tables.{with_tables}
 use Rattle.iofd_words.specs.View.{view}
@@ -21,7 +22,6 @@ use Rattle.iofd_words.specs.World.{World, opening}
 use Rattle.iofd_words.specs.declared.event.Event.{Event}
 use Rattle.iofd_words.specs.declared.event.Event.TheVariants as event
 use Rattle.iofd_words.specs.declared.numbers.FileNo.{FileNo}
-use Rattle.iofd_words.specs.declared.record.Record.{Record}
 use Rattle.iofd_words.specs.declared.refusal.Cause.{Cause}
 use Rattle.iofd_words.specs.declared.refusal.Cause.TheVariants as cause
 use Rattle.iofd_words.specs.declared.rows.Object.{Object}

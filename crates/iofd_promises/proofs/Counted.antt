@@ -4,10 +4,10 @@ use Rattle.std.proofs.Common.{refl, ap, sym, ◌∙◌, arith, subst}
 use Rattle.std.specs.List.{count_by, list_all}
 use Rattle.iofd_steps.specs.After.{changed}
 use Rattle.iofd_steps.specs.Run.{IsRun, world_of}
+use Rattle.iofd_words.specs.Record.{Record}
 use Rattle.iofd_words.specs.Settings.{Settings, is_between}
 use Rattle.iofd_words.specs.Tables.{with_tables}
 use Rattle.iofd_words.specs.World.{opening}
-use Rattle.iofd_words.specs.declared.record.Record.{Record}
 use Rattle.iofd_words.specs.declared.rows.Area.{Area}
 use Rattle.iofd_words.specs.declared.rows.Object.{Object}
 use Rattle.iofd_rows.proofs.Bools.{and_true}

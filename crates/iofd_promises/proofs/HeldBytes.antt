@@ -25,6 +25,7 @@ use Rattle.iofd_words.specs.Frames.{bytes_at}
 use Rattle.iofd_steps.specs.Look.{answers_in, lawful_answers, page_bytes}
 use Rattle.iofd_words.specs.Pins.{ObjectPage, allows, is_page, page_of_pin, pinned_frame}
 use Rattle.iofd_words.specs.Policy.{page_in}
+use Rattle.iofd_words.specs.Record.{Record}
 use Rattle.iofd_words.specs.View.{view}
 use Rattle.iofd_words.specs.World.{World}
 use Rattle.iofd_words.specs.declared.event.Event.TheVariants as event
@@ -36,7 +37,6 @@ use Rattle.iofd_words.specs.declared.numbers.Iova.{Iova}
 use Rattle.iofd_words.specs.declared.numbers.ObjId.{ObjId}
 use Rattle.iofd_words.specs.declared.query.Answer.TheVariants as answer
 use Rattle.iofd_words.specs.declared.query.Query.TheVariants.{AccessRead}
-use Rattle.iofd_words.specs.declared.record.Record.{Record}
 use Rattle.iofd_words.specs.declared.refusal.Cause.{Cause}
 use Rattle.iofd_words.specs.declared.reply.Reply.TheVariants as reply
 use Rattle.iofd_words.specs.declared.rows.Pin.{Pin}

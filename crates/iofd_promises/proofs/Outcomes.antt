@@ -7,6 +7,7 @@ use Rattle.iofd_words.specs.Frames.{bytes_at}
 use Rattle.iofd_steps.specs.Look.{answers_in, lawful_answers, read_answer}
 use Rattle.iofd_words.specs.Policy.{Outcome, Passes, Denied, fault_of, outcomes}
 use Rattle.iofd_steps.specs.Run.{IsRun, world_of}
+use Rattle.iofd_words.specs.Record.{Record}
 use Rattle.iofd_words.specs.Settings.{Settings}
 use Rattle.iofd_words.specs.View.{view}
 use Rattle.iofd_words.specs.World.{World}
@@ -20,7 +21,6 @@ use Rattle.iofd_words.specs.declared.numbers.Iova.{Iova}
 use Rattle.iofd_words.specs.declared.query.Answer.{Answer}
 use Rattle.iofd_words.specs.declared.query.Answer.TheVariants as answer
 use Rattle.iofd_words.specs.declared.query.Query.TheVariants.{DeviceRead}
-use Rattle.iofd_words.specs.declared.record.Record.{Record}
 use Rattle.iofd_words.specs.declared.refusal.Cause.{Cause}
 use Rattle.iofd_words.specs.declared.reply.Reply.TheVariants as reply
 use Rattle.iofd_rows.proofs.Contained.{contained_in_one}

@@ -7,12 +7,12 @@ use Rattle.iofd_refusals.specs.Checks.{refusal}
 use Rattle.std.specs.List.{list_all}
 use Rattle.iofd_words.specs.Frames.{is_free}
 use Rattle.iofd_steps.specs.Run.{IsAnswer, IsRun, Lawful, MovesFrames, after, after_answer, world_from, world_of}
+use Rattle.iofd_words.specs.Record.{Record}
 use Rattle.iofd_words.specs.Settings.{Settings}
 use Rattle.iofd_words.specs.Tables.{MovesTables, are_different, with_tables}
 use Rattle.iofd_words.specs.World.{World, opening}
 use Rattle.iofd_words.specs.declared.event.Event.{Event}
 use Rattle.iofd_words.specs.declared.numbers.FrameNo.{FrameNo}
-use Rattle.iofd_words.specs.declared.record.Record.{Record}
 use Rattle.iofd_words.specs.declared.refusal.Cause.{Cause}
 use Rattle.iofd_words.specs.declared.reply.Reply.{Reply}
 use Rattle.iofd_words.specs.declared.reply.Reply.TheVariants as reply

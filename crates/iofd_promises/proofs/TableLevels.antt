@@ -8,6 +8,7 @@ use Rattle.iofd_refusals.specs.Checks.{refusal}
 use Rattle.iofd_words.specs.Levels.{levels_of}
 use Rattle.iofd_words.specs.Objects.{is_hwpt, kind_of}
 use Rattle.iofd_steps.specs.Run.{IsRun, world_of}
+use Rattle.iofd_words.specs.Record.{Record}
 use Rattle.iofd_words.specs.Settings.{Settings}
 use Rattle.iofd_words.specs.TablePlaces.{TablePlace, has_table, is_place, lacking, live_pages, places_from, places_of}
 use Rattle.iofd_words.specs.Tables.{MissingTable, MovesTables, in_frames, kept_tables, missing_of, missing_tables}
@@ -17,7 +18,6 @@ use Rattle.iofd_words.specs.declared.event.Event.{Event}
 use Rattle.iofd_words.specs.declared.numbers.FileNo.{FileNo}
 use Rattle.iofd_words.specs.declared.numbers.FrameNo.{FrameNo}
 use Rattle.iofd_words.specs.declared.numbers.ObjId.{ObjId}
-use Rattle.iofd_words.specs.declared.record.Record.{Record}
 use Rattle.iofd_words.specs.declared.reply.Reply.{Reply}
 use Rattle.iofd_words.specs.declared.rows.Area.{Area}
 use Rattle.iofd_words.specs.declared.rows.Object.{Object}

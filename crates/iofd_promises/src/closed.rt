@@ -3,10 +3,10 @@
 ghost use Rattle.std.specs.Prelude.{◌≡◌, Some, List, [], ◌∷◌, ◌++◌, Contains};
 ghost use Rattle.iofd_promises.specs.Closing.{HasNothing, IsGone, file_named};
 ghost use Rattle.iofd_steps.specs.Run.{IsRun, world_of};
+ghost use Rattle.iofd_words.specs.Record.{Record};
 ghost use Rattle.iofd_words.specs.Settings.{Settings};
 ghost use Rattle.iofd_words.specs.declared.event.Event.TheVariants as event;
 ghost use Rattle.iofd_words.specs.declared.numbers.FileNo.{FileNo};
-ghost use Rattle.iofd_words.specs.declared.record.Record.{Record};
 ghost use Rattle.iofd_words.specs.declared.refusal.Cause.TheVariants as cause;
 ghost use Rattle.iofd_words.specs.declared.reply.Reply.TheVariants as reply;
 

@@ -4,10 +4,10 @@ ghost use Rattle.std.specs.Prelude.{◌≡◌, ◌+◌, ◌⊎◌, ℕ, Bool, So
 ghost use Rattle.std.specs.Prelude.{Contains, slice_get};
 ghost use Rattle.iofd_promises.specs.Owners.{HasPlace, IsNobodys, IsUsersPage};
 ghost use Rattle.iofd_steps.specs.Run.{IsRun, world_of};
+ghost use Rattle.iofd_words.specs.Record.{Record};
 ghost use Rattle.iofd_words.specs.Settings.{DeviceSettings, Settings};
 ghost use Rattle.iofd_words.specs.declared.numbers.FrameNo.{FrameNo};
 ghost use Rattle.iofd_words.specs.declared.numbers.ObjId.{ObjId};
-ghost use Rattle.iofd_words.specs.declared.record.Record.{Record};
 ghost use Rattle.iofd_words.specs.declared.reply.Reply.TheVariants as reply;
 ghost use Rattle.iofd_words.specs.declared.rows.Attachment.{Attachment};
 ghost use Rattle.iofd_words.specs.declared.rows.Object.{Object};

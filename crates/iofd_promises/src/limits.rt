@@ -4,8 +4,8 @@ ghost use Rattle.std.specs.Prelude.{◌≤◌, ◌<◌, ◌^◌, ◌-◌, ◌==�
 ghost use Rattle.std.specs.Prelude.{ℕ, List, Contains};
 ghost use Rattle.iofd_promises.specs.Bounded.{LiesWell, how_many};
 ghost use Rattle.iofd_steps.specs.Run.{IsRun, world_of};
+ghost use Rattle.iofd_words.specs.Record.{Record};
 ghost use Rattle.iofd_words.specs.Settings.{Settings};
-ghost use Rattle.iofd_words.specs.declared.record.Record.{Record};
 ghost use Rattle.iofd_words.specs.declared.rows.Area.{Area};
 ghost use Rattle.iofd_words.specs.declared.rows.Object.{Object};
 ghost use Rattle.iofd_words.specs.declared.rows.UserPage.{UserPage};

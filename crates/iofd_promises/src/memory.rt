@@ -6,6 +6,7 @@ ghost use Rattle.iofd_promises.specs.Bytes.{AreBytesOf, ChangesJust, changes_byt
 ghost use Rattle.iofd_promises.specs.Holding.{ReachesByPin};
 ghost use Rattle.iofd_steps.specs.Look.{answers_to};
 ghost use Rattle.iofd_steps.specs.Run.{IsRun, world_of};
+ghost use Rattle.iofd_words.specs.Record.{Record};
 ghost use Rattle.iofd_words.specs.Settings.{Settings};
 ghost use Rattle.iofd_words.specs.declared.event.Event.TheVariants as event;
 ghost use Rattle.iofd_words.specs.declared.fault.AccessKind.TheVariants.{Read, Write};
@@ -17,7 +18,6 @@ ghost use Rattle.iofd_words.specs.declared.numbers.ObjId.{ObjId};
 ghost use Rattle.iofd_words.specs.declared.numbers.UserNo.{UserNo};
 ghost use Rattle.iofd_words.specs.declared.query.Answer.TheVariants as answer;
 ghost use Rattle.iofd_words.specs.declared.query.Query.TheVariants.{AccessRead, UserRead};
-ghost use Rattle.iofd_words.specs.declared.record.Record.{Record};
 ghost use Rattle.iofd_words.specs.declared.reply.Reply.TheVariants as reply;
 ghost use Rattle.iofd_words.specs.declared.rows.UserPage.{UserPage};
 

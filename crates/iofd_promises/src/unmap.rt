@@ -3,12 +3,12 @@
 ghost use Rattle.std.specs.Prelude.{◌≡◌, ℕ, List, [], ◌∷◌, ◌++◌};
 ghost use Rattle.iofd_promises.specs.Unmaps.{AllPaid, SameOthers, TakesAway, Waits};
 ghost use Rattle.iofd_steps.specs.Run.{IsRun, world_of};
+ghost use Rattle.iofd_words.specs.Record.{Record};
 ghost use Rattle.iofd_words.specs.Settings.{Settings};
 ghost use Rattle.iofd_words.specs.declared.event.Event.TheVariants as event;
 ghost use Rattle.iofd_words.specs.declared.event.UnmapRequest.{UnmapRequest};
 ghost use Rattle.iofd_words.specs.declared.numbers.DeviceNo.{DeviceNo};
 ghost use Rattle.iofd_words.specs.declared.numbers.FileNo.{FileNo};
-ghost use Rattle.iofd_words.specs.declared.record.Record.{Record};
 ghost use Rattle.iofd_words.specs.declared.refusal.Errno.{Errno};
 ghost use Rattle.iofd_words.specs.declared.reply.Reply.TheVariants as reply;
 

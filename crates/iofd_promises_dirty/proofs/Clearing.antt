@@ -17,6 +17,7 @@ use Rattle.iofd_steps.specs.Look.{answers_in}
 use Rattle.iofd_words.specs.Objects.{is_hwpt_under}
 use Rattle.iofd_words.specs.Pages.{is_above_sum, is_whole}
 use Rattle.iofd_steps.specs.Run.{IsRun, world_of}
+use Rattle.iofd_words.specs.Record.{Record}
 use Rattle.iofd_words.specs.Settings.{Settings}
 use Rattle.iofd_words.specs.Tables.{with_tables}
 use Rattle.iofd_words.specs.View.{view}
@@ -28,7 +29,6 @@ use Rattle.iofd_words.specs.declared.numbers.FileNo.{FileNo}
 use Rattle.iofd_words.specs.declared.numbers.ObjId.{ObjId}
 use Rattle.iofd_words.specs.declared.query.Answer.TheVariants as answer
 use Rattle.iofd_words.specs.declared.query.Query.TheVariants as query
-use Rattle.iofd_words.specs.declared.record.Record.{Record}
 use Rattle.iofd_words.specs.declared.refusal.Cause.{Cause}
 use Rattle.iofd_words.specs.declared.refusal.Cause.TheVariants as cause
 use Rattle.iofd_words.specs.declared.reply.Reply.{Reply}

@@ -8,13 +8,13 @@ use Rattle.iofd_words.specs.Attachments.{attachment_of}
 use Rattle.iofd_words.specs.Dirty.{TrackedTable, is_tracked_as, marked_by, with_tracking, without_tracked}
 use Rattle.iofd_words.specs.Pages.{page_of}
 use Rattle.iofd_steps.specs.Run.{IsRun, world_of}
+use Rattle.iofd_words.specs.Record.{Record}
 use Rattle.iofd_words.specs.Settings.{Settings}
 use Rattle.iofd_words.specs.Tables.{with_tables}
 use Rattle.iofd_words.specs.World.{World, opening}
 use Rattle.iofd_words.specs.declared.event.Event.{Event}
 use Rattle.iofd_words.specs.declared.numbers.FileNo.{FileNo}
 use Rattle.iofd_words.specs.declared.numbers.ObjId.{ObjId}
-use Rattle.iofd_words.specs.declared.record.Record.{Record}
 use Rattle.iofd_words.specs.declared.reply.Reply.{Reply}
 use Rattle.iofd_words.specs.declared.rows.Attachment.{Attachment}
 use Rattle.iofd_rows.proofs.Bools.{and_true, both_true, not_false, not_true}

@@ -8,6 +8,7 @@ ghost use Rattle.iofd_promises_dirty.specs.Marks.{IsWritten};
 ghost use Rattle.iofd_words.specs.Dirty.{TrackedTable};
 ghost use Rattle.iofd_steps.specs.Look.{answers_to};
 ghost use Rattle.iofd_steps.specs.Run.{IsRun, world_of};
+ghost use Rattle.iofd_words.specs.Record.{Record};
 ghost use Rattle.iofd_words.specs.Settings.{Settings};
 ghost use Rattle.iofd_words.specs.declared.event.DirtyRequest.{DirtyRequest};
 ghost use Rattle.iofd_words.specs.declared.event.Event.TheVariants as event;
@@ -15,7 +16,6 @@ ghost use Rattle.iofd_words.specs.declared.numbers.FileNo.{FileNo};
 ghost use Rattle.iofd_words.specs.declared.numbers.ObjId.{ObjId};
 ghost use Rattle.iofd_words.specs.declared.query.Answer.TheVariants as answer;
 ghost use Rattle.iofd_words.specs.declared.query.Query.TheVariants as query;
-ghost use Rattle.iofd_words.specs.declared.record.Record.{Record};
 ghost use Rattle.iofd_words.specs.declared.reply.Reply.TheVariants as reply;
 
 use std::alloc::Allocator;

@@ -1,9 +1,9 @@
 -- A run and one record more.
 use Rattle.std.proofs.Common.{◌≡◌, ℕ, suc, ◌+◌, List, [], ◌∷◌, ◌++◌, length, ap, ◌∙◌, subst, arith}
 use Rattle.iofd_steps.specs.Run.{IsRun, IsRunFrom, Lawful, after, world_from, world_of}
+use Rattle.iofd_words.specs.Record.{Record}
 use Rattle.iofd_words.specs.Settings.{Settings}
 use Rattle.iofd_words.specs.World.{World, opening}
-use Rattle.iofd_words.specs.declared.record.Record.{Record}
 
 module _ {A : Type 0} where
   run_from_more : (at : ℕ) (w : World) (records : List (Record A)) (r : Record A) → IsRunFrom at w records

@@ -10,9 +10,9 @@ use Rattle.iofd_steps.specs.After.{changed}
 use Rattle.iofd_refusals.specs.Checks.{refusal}
 use Rattle.iofd_words.specs.Pins.{ObjectPage, is_accessed}
 use Rattle.iofd_steps.specs.Run.{IsAnswer, Lawful, after, after_answer}
+use Rattle.iofd_words.specs.Record.{Record}
 use Rattle.iofd_words.specs.Tables.{with_tables}
 use Rattle.iofd_words.specs.World.{World}
-use Rattle.iofd_words.specs.declared.record.Record.{Record}
 use Rattle.iofd_words.specs.declared.refusal.Cause.{Cause}
 
 -- ---- which events move access pins

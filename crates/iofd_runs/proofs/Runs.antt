@@ -6,11 +6,11 @@ use Rattle.iofd_steps.specs.Answers.{Answers}
 use Rattle.iofd_refusals.specs.Checks.{refusal}
 use Rattle.iofd_words.specs.FirstTrue.{first_true}
 use Rattle.iofd_steps.specs.Run.{IsAnswer, Lawful, MovesFrames, after, after_answer, IsRunFrom, world_from}
+use Rattle.iofd_words.specs.Record.{Record}
 use Rattle.iofd_words.specs.Tables.{MovesTables, with_tables}
 use Rattle.iofd_words.specs.World.{World}
 use Rattle.iofd_words.specs.declared.event.Event.{Event}
 use Rattle.iofd_words.specs.declared.numbers.FrameNo.{FrameNo}
-use Rattle.iofd_words.specs.declared.record.Record.{Record}
 use Rattle.iofd_words.specs.declared.refusal.Cause.{Cause}
 use Rattle.iofd_words.specs.declared.reply.Reply.{Reply}
 

@@ -17,6 +17,7 @@ use Rattle.iofd_words.specs.Pins.{held_by, pinned_frame}
 use Rattle.iofd_words.specs.Policy.{Outcome, Passes, Denied, outcomes, fault_of, is_pass_at}
 use Rattle.iofd_words.specs.Ranges.{AreMerged, in_spans}
 use Rattle.iofd_steps.specs.Run.{world_of}
+use Rattle.iofd_words.specs.Record.{Record}
 use Rattle.iofd_words.specs.Settings.{Settings}
 use Rattle.iofd_words.specs.Turns.{turns_of}
 use Rattle.iofd_words.specs.View.{View, view}
@@ -34,7 +35,6 @@ use Rattle.iofd_words.specs.declared.query.Answer.TheVariants as answer
 use Rattle.iofd_words.specs.declared.query.Query.{Query}
 use Rattle.iofd_words.specs.declared.query.Query.TheVariants.{AccessRead, AttachedTo, CachedRead, DeviceRead, Dirty}
 use Rattle.iofd_words.specs.declared.query.Query.TheVariants.{FreeFrames, Held, Turns, UserRead, WalkFor}
-use Rattle.iofd_words.specs.declared.record.Record.{Record}
 use Rattle.iofd_words.specs.declared.refusal.Cause.{Cause}
 use Rattle.iofd_words.specs.declared.refusal.Cause.TheVariants as cause
 

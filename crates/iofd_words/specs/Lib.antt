@@ -20,6 +20,7 @@ pub mod Pages
 pub mod Pins
 pub mod Policy
 pub mod Ranges
+pub mod Record
 pub mod Refusal
 pub mod Rights
 pub mod Room

@@ -2,10 +2,10 @@
 -- device tells by their number whether another caller made one.
 use Rattle.std.specs.Prelude.{ℕ, Bool, false, ◌==◌, List}
 use Rattle.std.specs.List.{count_by}
+use Rattle.iofd_words.specs.Record.{Record}
 use Rattle.iofd_words.specs.declared.event.Event.{Event}
 use Rattle.iofd_words.specs.declared.event.Event.TheVariants as event
 use Rattle.iofd_words.specs.declared.numbers.DeviceNo.{DeviceNo}
-use Rattle.iofd_words.specs.declared.record.Record.{Record}
 
 -- the device is attached, detached or flushed
 abbrev pub is_turn_of : {A : Type 0} → DeviceNo → Event A → Bool

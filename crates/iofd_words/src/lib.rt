@@ -35,7 +35,7 @@ pub use numbers::{
 };
 pub use query::{Answer, Query, Translation};
 pub use range::{IovaRange, RangeList};
-pub use record::Record;
+pub use record::{MovedFrames, Record};
 pub use refusal::{Cause, Errno, NoMemory, Refusal};
 pub use reply::Reply;
 pub use rows::{

@@ -4,8 +4,8 @@ use Rattle.std.specs.Prelude.{Option, List, [], ◌++◌, length}
 use Rattle.std.specs.Io.KnownBytes.{Keeps}
 use Rattle.std.specs.IoError.{error_kind}
 use Rattle.std.specs.declared.io.ErrorKind.TheVariants.{OutOfMemory}
+use Rattle.iofd_words.specs.Record.{Record}
 use Rattle.iofd_words.specs.Settings.{Settings}
-use Rattle.iofd_words.specs.declared.record.Record.{Record}
 use Rattle.iommufd_cli.specs.Journal.{EndText}
 use Rattle.iommufd_cli.specs.Output.{IsFinal, IsFront, Writes}
 use Rattle.iommufd_cli.specs.Replies.{bad_line_text, line, no_memory_text}

@@ -1,8 +1,8 @@
 -- What stands behind the lines of a session's steps.
 use Rattle.std.specs.Prelude.{◌≡◌, ◌⊎◌, ℕ, Bool, true, false, List, [], ◌++◌, codes}
 use Rattle.hex.specs.Hex.{encode_lower}
+use Rattle.iofd_words.specs.Record.{Record}
 use Rattle.iofd_words.specs.Settings.{Settings}
-use Rattle.iofd_words.specs.declared.record.Record.{Record}
 use Rattle.iommufd_cli.specs.Replies.{line, memory_text}
 use Rattle.journal_audit_bytes.specs.Journal.{IsJournal}
 use Rattle.journal_audit_bytes.specs.declared.version.Version.TheVariants.{Two}

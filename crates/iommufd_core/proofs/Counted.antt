@@ -6,10 +6,10 @@ use Rattle.std.proofs.lemmas.List.Sums.{count_by-le-length, sum_by-append}
 use Rattle.std.specs.Option.{option_map}
 use Rattle.std.specs.List.{slice_get}
 use Rattle.iofd_words.specs.Files.{device_of, numbered}
+use Rattle.iofd_words.specs.Record.{Record}
 use Rattle.iofd_words.specs.Settings.{DeviceSettings, Settings}
 use Rattle.iofd_words.specs.Turns.{is_turn_of, turns_of}
 use Rattle.iofd_words.specs.declared.numbers.DeviceNo.{DeviceNo}
-use Rattle.iofd_words.specs.declared.record.Record.{Record}
 use Rattle.iommufd_core.specs.TurnCounts.{AreTurns, HaveRoom, count_for, counted_with}
 
 -- ---- at the opening

@@ -17,11 +17,11 @@ use Rattle.iofd_runs.specs.Few.{RowsFew}
 use Rattle.iofd_runs.specs.Fits.{RowsFit}
 use Rattle.iofd_runs.specs.PinsFit.{AccessPinsFit}
 use Rattle.iofd_steps.specs.Run.{IsRun, world_of}
+use Rattle.iofd_words.specs.Record.{Record}
 use Rattle.iofd_words.specs.Settings.{Settings}
 use Rattle.iofd_words.specs.Tables.{with_tables}
 use Rattle.iofd_words.specs.View.{view}
 use Rattle.iofd_words.specs.World.{opening}
-use Rattle.iofd_words.specs.declared.record.Record.{Record}
 use Rattle.iommufd_core.specs.Kept.{IsKept}
 use Rattle.server_state.proofs.ViewShown.{same_view}
 use Rattle.server_state.specs.Choice.{NoneIdle}

@@ -2,7 +2,7 @@
 -- there, and each device's turns among them are counted.
 use Rattle.std.specs.Prelude.{ℕ, List}
 use Rattle.iofd_steps.specs.Run.{IsRun, world_of}
-use Rattle.iofd_words.specs.declared.record.Record.{Record}
+use Rattle.iofd_words.specs.Record.{Record}
 use Rattle.iommufd_core.specs.TurnCounts.{AreTurns}
 use Rattle.server_state.specs.Choice.{NoneIdle}
 use Rattle.server_state.specs.Shows.{Shows}

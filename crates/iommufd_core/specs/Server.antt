@@ -8,6 +8,7 @@ use Rattle.iofd_words.specs.View.{View, view}
 use Rattle.iofd_words.specs.World.{World}
 use Rattle.iofd_words.specs.declared.event.Event.{Event}
 use Rattle.iofd_words.specs.declared.event.Event.TheVariants as event
+use Rattle.event_device_access.specs.FirstMark.{takes_mark}
 use Rattle.event_device_access.specs.Tracked.{tracks_writes_of}
 use Rattle.event_unmap.specs.Lost.{loses_table}
 use Rattle.hwpt_device_attach.specs.Attaching.{takes_its_table}
@@ -22,6 +23,11 @@ pub record Server (A : Type 0) : Type 0 where
 -- it lets no memory for records go: records and room together are no fewer
 abbrev pub KeepsRoom : {A : Type 0} → Server A → Server A → Type 0
 KeepsRoom old new = length old.history.records + old.room ≤ length new.history.records + new.room
+
+-- where it had none it has it for as many records as there were, the new one among them: so a record's place is seldom
+-- lacking
+abbrev pub DoublesRoom : {A : Type 0} → Server A → Server A → Type 0
+DoublesRoom old new = old.room ≡ 0 → length old.history.records ≤ new.room + 1
 
 -- the events that may take memory beside their record's, by what the refusals read: those by which something comes,
 -- those by which page tables or their tables go, for the list of the frames that they give back, and a device's write,
@@ -53,9 +59,11 @@ takes_memory v (event.AccessWrite file id iova bytes) = false
 takes_memory v (event.DirtyEnable file hwpt on) = on
 takes_memory v (event.DirtyClear file request) = false
 
--- and of UNMAPs those alone that don't wait and by which some table goes: no other one has frames to list
+-- and of UNMAPs those alone that don't wait and by which some table goes: no other one has frames to list; of devices'
+-- writes those alone that may pass and whose mark is the first of its word: no other one makes a place for marks
 abbrev pub may_lack : {A : Type 0} → World → Event A → Bool
 may_lack w (event.Unmap file request) = not (waits w file request) && loses_table w file request
+may_lack w (event.DeviceWrite device iova bytes) = takes_mark w device iova.0
 may_lack w e = true
 
 -- the events of which none ever does
@@ -72,7 +80,8 @@ is_in_place (event.DirtyClear file request) = true
 is_in_place e = false
 
 -- the only time at which memory may be wanting: there is no place for the record, or for the list that the event
--- carries, or nothing refuses the event and it is one that may take memory, in this world
+-- carries, or nothing refuses the event and it is one that may take memory, in this world too: an UNMAP by which some
+-- table goes, say, or a device's write that may pass and whose mark is the first of its word
 abbrev pub MayWant : {A : Type 0} → Server A → Event A → Type 0
 MayWant s e =
     ((s.room ≡ 0) ⊎ (0 < length (ranges_of e)))

@@ -2,11 +2,11 @@
 use Rattle.std.specs.Prelude.{◌≡◌, ℕ, ◌+◌, ◌<◌, ◌^◌, Option, Some, List, if◌then◌else◌}
 use Rattle.std.specs.Option.{option_map}
 use Rattle.iofd_words.specs.Files.{device_of, numbered}
+use Rattle.iofd_words.specs.Record.{Record}
 use Rattle.iofd_words.specs.Settings.{Settings}
 use Rattle.iofd_words.specs.Turns.{is_turn_of, turns_of}
 use Rattle.iofd_words.specs.declared.event.Event.{Event}
 use Rattle.iofd_words.specs.declared.numbers.DeviceNo.{DeviceNo}
-use Rattle.iofd_words.specs.declared.record.Record.{Record}
 
 -- the count that is kept for a device
 abbrev pub count_for : List ℕ → DeviceNo → Option ℕ

@@ -1,6 +1,7 @@
 //! The core: a state, and the records of all steps that led to it.
 
-ghost use Rattle.std.specs.Prelude.{◌≡◌, ◌<◌, ◌^◌, [], IfOk, IsTrue, OnErr, length, None};
+ghost use Rattle.std.specs.Prelude.{◌≡◌, ◌<◌, ◌≤◌, ◌*◌, ◌^◌, [], IfOk, IsTrue, OnErr, OnOk, length, None};
+ghost use Rattle.std.specs.Prelude.{vec_capacity, vec_len};
 ghost use Rattle.iofd_words.specs.Accesses.{notices};
 ghost use Rattle.iofd_refusals.specs.Checks as checks;
 ghost use Rattle.iofd_words.specs.FirstTrue.{first_true};
@@ -9,13 +10,13 @@ ghost use Rattle.iofd_steps.specs.Run.{IsRun};
 ghost use Rattle.server_state.specs.Choice.{IsChosen, IsLooked};
 ghost use Rattle.iommufd_core.specs.History.{HasOneMore, may_apply, may_look, world};
 ghost use Rattle.iommufd_core.specs.Refused.{refused_cause};
-ghost use Rattle.iommufd_core.specs.Server.{KeepsRoom, MayWant};
+ghost use Rattle.iommufd_core.specs.Server.{DoublesRoom, KeepsRoom, MayWant};
 ghost use Rattle.iofd_words.specs.View.{view};
 
 use crate::{events, look, notices, opening, ranges, turn_counts};
 use event_device_access::access;
 use iofd_words::{
-    AccessKind, Act, Answer, CallError, Config, DeviceNo, FileNo, FrameList, FrameNo, Iova,
+    AccessKind, Act, Answer, CallError, Config, DeviceNo, FileNo, FrameNo, Iova, MovedFrames,
     NoMemory, ObjId, PassNo, Query, Record, Reply, Span,
 };
 use iova_ranges::RangeSet;
@@ -83,7 +84,8 @@ impl<A: Allocator + Copy> Core<A> {
     /// it took for tables and gave back, at the position that the stamp names. Without a cached frame a device's write
     /// that may pass or be denied, since a flush is owed, is denied; with one it passes there.
     ///
-    /// NoMemory comes only where a growth was really refused, and leaves everything as it was.
+    /// NoMemory comes only where a growth was really refused, and leaves the history as it was; room that was taken
+    /// for records stays.
     pub fn apply(&mut self, pass: PassNo, act: &Act<A>) -> Result<Stamp, NoMemory>
         requires { IsTrue (may_apply self.old.history act.now.event act.now.via) }
         ensures record { IfOk result (λ stamp. HasOneMore pass act.now.event stamp.reply
@@ -96,15 +98,17 @@ impl<A: Allocator + Copy> Core<A> {
 
         // Want of memory comes only where the record has no place, to an event that carries a list, or to one that
         // nothing refuses and by which something comes, tables may go or a page is marked; to an UNMAP only where it
-        // doesn't wait and some table goes. It changes nothing.
+        // doesn't wait and some table goes, to a device's write only where it may pass and its mark is the first of
+        // its word. It changes nothing.
         ensures memory { OnErr result (MayWant self.old act.now.event) }
         ensures unchanged { OnErr result (self.new.history ≡ self.old.history) }
 
-        // The memory that it has for records it keeps for them.
+        // The memory that it has for records it keeps for them. Where it has none it takes it for as many as there are.
         ensures room { KeepsRoom self.old self.new }
+        ensures doubles { OnOk result (DoublesRoom self.old self.new) }
     {
         let at = self.records.len() as u64;
-        if self.records.reserve(1).is_err() {
+        if make_room(&mut self.records).is_err() {
             return Err(NoMemory);
         }
         let alloc = self.state.alloc;
@@ -116,14 +120,13 @@ impl<A: Allocator + Copy> Core<A> {
         let Ok(reply) = events::answer(&mut self.state, at, act, &mut taken, &mut given) else {
             return Err(NoMemory);
         };
+        let Ok(frames) = MovedFrames::new(taken, given) else {
+            // No event takes frames and gives some back.
+            unreachable!()
+        };
         turn_counts::count(&mut self.turns, &act.event);
-        self.records.push_reserved(Record {
-            pass,
-            event,
-            reply,
-            taken: FrameList::new(taken),
-            given: FrameList::new(given),
-        });
+        self.records
+            .push_reserved(Record::new(pass, event, reply, frames));
         Ok(Stamp { at, reply })
     }
 
@@ -203,4 +206,22 @@ impl<A: Allocator> Core<A> {
     {
         self.records.as_slice()
     }
+}
+
+// Makes room for one more where there is none, and then for as many as there are: so room is seldom lacking. The only
+// error is want of memory, where there is none, and leaves the values.
+fn make_room<T, A: Allocator>(values: &mut Vec<T, A>) -> Result<(), NoMemory>
+    ensures items { values.new.items ≡ values.old.items }
+    ensures len { vec_len values.new ≡ vec_len values.old }
+    ensures ok { OnOk result (vec_len values.new < vec_capacity values.new) }
+    ensures capacity { vec_capacity values.old ≤ vec_capacity values.new }
+    ensures full { OnErr result (vec_capacity values.old ≤ vec_len values.old) }
+    ensures doubled { OnOk result (vec_capacity values.old ≤ vec_len values.old
+        → 2 * vec_len values.new ≤ vec_capacity values.new) }
+{
+    if values.len() < values.capacity() {
+        return Ok(());
+    }
+    values.reserve(values.len().max(1))?;
+    Ok(())
 }

@@ -3,12 +3,12 @@ use Rattle.std.proofs.Common.{◌≡◌, ℕ, Bool, true, false, Some, List, [],
 use Rattle.std.proofs.Common.{◌∙◌, subst, cond, eqb}
 use Rattle.std.specs.List.{slice_index}
 use Rattle.iofd_words.specs.Bounds.{Bounds}
+use Rattle.iofd_words.specs.Record.{Record}
 use Rattle.iofd_words.specs.Settings.{Settings}
 use Rattle.iofd_words.specs.declared.event.Event.{Event}
 use Rattle.iofd_words.specs.declared.event.Event.TheVariants as event
 use Rattle.iofd_words.specs.declared.event.PinRequest.{PinRequest}
 use Rattle.iofd_words.specs.declared.numbers.FrameNo.{FrameNo}
-use Rattle.iofd_words.specs.declared.record.Record.{Record}
 use Rattle.journal_audit_bytes.specs.Format.{Raw, Spells, Tagged}
 use Rattle.journal_audit_bytes.specs.Journal.{SpellsRecord, raw_record}
 use Rattle.journal_audit_bytes.specs.Reading.{of_frames, pairs, purpose_number, record_at, singles, switch_number}

@@ -2,10 +2,10 @@
 use Rattle.std.proofs.Common.{◌≡◌, ℕ, Bool, true, false, Some, None, List, ◌++◌, refl, sym, ap, ◌∙◌, subst}
 use Rattle.std.proofs.Common.{Result, Ok, Err, IfOk, IsTrue}
 use Rattle.iofd_steps.specs.Run.{Lawful, after}
+use Rattle.iofd_words.specs.Record.{Record}
 use Rattle.iofd_words.specs.Settings.{Settings}
 use Rattle.iofd_words.specs.World.{World}
 use Rattle.iofd_words.specs.declared.event.Event.{Event}
-use Rattle.iofd_words.specs.declared.record.Record.{Record}
 use Rattle.iofd_words.specs.declared.refusal.NoMemory.{NoMemory}
 use Rattle.journal_audit.specs.Next.{IsJudged, IsNext, Tells, next_of}
 use Rattle.journal_audit.specs.declared.next.Next.TheVariants as next

@@ -3,9 +3,9 @@ use Rattle.std.proofs.Common.{◌≡◌, ◌≢◌, ℕ, zero, suc, ◌+◌, ◌
 use Rattle.std.proofs.Common.{◌∙◌, subst, arith, append-nil, append_assoc}
 use Rattle.std.proofs.lemmas.List.{length-append}
 use Rattle.iofd_steps.specs.Run.{IsRun, Lawful, after, world_of}
+use Rattle.iofd_words.specs.Record.{Record}
 use Rattle.iofd_words.specs.Settings.{Settings}
 use Rattle.iofd_words.specs.World.{World, opening}
-use Rattle.iofd_words.specs.declared.record.Record.{Record}
 use Rattle.iofd_runs.proofs.OneMore.{run_more, world_more}
 use Rattle.iofd_runs.proofs.Runs.{run_keeps}
 use Rattle.iofd_runs.proofs.SameSettings.{keeps_settings, tabled_settings}

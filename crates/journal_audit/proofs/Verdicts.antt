@@ -3,9 +3,9 @@ use Rattle.std.proofs.Common.{◌≡◌, ◌≢◌, ◌⊎◌, inl, inr, ℕ, ze
 use Rattle.std.proofs.Common.{ap}
 use Rattle.std.proofs.Common.{◌∙◌, subst, arith, append_assoc, Result, Ok, Err, IfOk}
 use Rattle.iofd_steps.specs.Run.{IsRun, IsRunFrom, Lawful, after, world_from, world_of}
+use Rattle.iofd_words.specs.Record.{Record}
 use Rattle.iofd_words.specs.Settings.{Settings}
 use Rattle.iofd_words.specs.World.{World, opening}
-use Rattle.iofd_words.specs.declared.record.Record.{Record}
 use Rattle.iofd_words.specs.declared.refusal.NoMemory.{NoMemory}
 use Rattle.journal_audit.specs.Verdict.{BeginNoHead, BeginNoRecord, BeginWithRun, IsVerdict, NoneFollows}
 use Rattle.journal_audit.specs.declared.verdict.Verdict.{Verdict}

@@ -1,8 +1,8 @@
 -- Bytes of version 1 that aren't torn are the same with version 2's mark in place of their own.
 use Rattle.std.proofs.Common.{◌≡◌, ◌≢◌, ℕ, List, [], ◌∷◌, ◌++◌, length, get_or, drop, refl, sym, ap, ◌∙◌, subst}
 use Rattle.std.proofs.Common.{arith}
+use Rattle.iofd_words.specs.Record.{Record}
 use Rattle.iofd_words.specs.Settings.{Settings}
-use Rattle.iofd_words.specs.declared.record.Record.{Record}
 use Rattle.journal_audit.specs.Verdict.{BeginWithRun, IsVerdict, NoneFollows}
 use Rattle.journal_audit.specs.declared.verdict.Verdict.{Verdict}
 use Rattle.journal_audit.specs.declared.verdict.Verdict.TheVariants.{Run, NotRun, Torn}

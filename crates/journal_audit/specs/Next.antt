@@ -1,9 +1,9 @@
 -- What comes of one record: whether it goes on with the run, in the world that the run has left.
 use Rattle.std.specs.Prelude.{◌≡◌, ℕ, Bool, true, false, Some, List, ◌++◌}
 use Rattle.iofd_steps.specs.Run.{Lawful, after}
+use Rattle.iofd_words.specs.Record.{Record}
 use Rattle.iofd_words.specs.Settings.{Settings}
 use Rattle.iofd_words.specs.World.{World}
-use Rattle.iofd_words.specs.declared.record.Record.{Record}
 use Rattle.journal_audit.specs.Verdict.{BeginNoRecord}
 use Rattle.journal_audit.specs.declared.next.Next.{Next}
 use Rattle.journal_audit.specs.declared.next.Next.TheVariants as next

@@ -1,8 +1,8 @@
 -- What an auditor's word means of the bytes that it was given.
 use Rattle.std.specs.Prelude.{◌≡◌, ◌≢◌, ℕ, zero, suc, ◌+◌, List, [], ◌++◌, length}
 use Rattle.iofd_steps.specs.Run.{IsRun, Lawful, world_of}
+use Rattle.iofd_words.specs.Record.{Record}
 use Rattle.iofd_words.specs.Settings.{Settings}
-use Rattle.iofd_words.specs.declared.record.Record.{Record}
 use Rattle.journal_audit.specs.declared.verdict.Verdict.{Verdict}
 use Rattle.journal_audit.specs.declared.verdict.Verdict.TheVariants.{Run, NotRun, Torn}
 use Rattle.journal_audit_bytes.specs.Format.{Raw, Spells}

@@ -1,7 +1,7 @@
 -- A journal: the bytes of its head, and of each record in turn.
 use Rattle.std.specs.Prelude.{◌≡◌, ℕ, zero, suc, Some, List, [], ◌∷◌, ◌++◌}
+use Rattle.iofd_words.specs.Record.{Record}
 use Rattle.iofd_words.specs.Settings.{Settings}
-use Rattle.iofd_words.specs.declared.record.Record.{Record}
 use Rattle.journal_audit_bytes.specs.Format.{Raw, Spells}
 use Rattle.journal_audit_bytes.specs.Head.{SpellsHead}
 use Rattle.journal_audit_bytes.specs.Reading.{of_frames, tagged_event, tagged_reply}

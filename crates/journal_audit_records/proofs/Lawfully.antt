@@ -7,10 +7,10 @@ use Rattle.iofd_steps.specs.Answers.{Answers}
 use Rattle.iofd_refusals.specs.Checks.{refusal}
 use Rattle.iofd_words.specs.Frames.{is_free}
 use Rattle.iofd_steps.specs.Run.{IsAnswer, Lawful, MovesFrames, after, after_answer}
+use Rattle.iofd_words.specs.Record.{Record}
 use Rattle.iofd_words.specs.Tables.{MovesTables, are_different, with_tables}
 use Rattle.iofd_words.specs.World.{World}
 use Rattle.iofd_words.specs.declared.numbers.FrameNo.{FrameNo}
-use Rattle.iofd_words.specs.declared.record.Record.{Record}
 use Rattle.iofd_words.specs.declared.refusal.Cause.{Cause}
 use Rattle.iofd_words.specs.declared.reply.Reply.TheVariants as reply
 use Rattle.journal_audit_world.specs.Decides.{Decides}

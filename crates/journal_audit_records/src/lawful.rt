@@ -24,11 +24,9 @@ fn is_refused<A: Allocator>(record: &Record<A>, cause: Cause) -> bool
     ensures { Decides result ((record.now.reply ≡ Reply.Refused (record { cause = cause }))
         × ((record.now.taken ≡ []) × (record.now.given ≡ []))) }
 {
-    match record.reply {
+    match record.reply() {
         Reply::Refused(refusal) => {
-            refusal.cause == cause
-                && record.taken.as_slice().is_empty()
-                && record.given.as_slice().is_empty()
+            refusal.cause == cause && record.taken().is_empty() && record.given().is_empty()
         }
         _ => false,
     }
@@ -49,23 +47,15 @@ fn go_on<A: Allocator + Copy>(
     ensures after { IfOk result (λ lawful. IsTrue lawful →
         unwritten world.new ≡ unwritten (after at world.old record.now)) }
 {
-    let (taken, given) = (record.taken.as_slice(), record.given.as_slice());
+    let (taken, given) = (record.taken(), record.given());
     if !are_free(alloc, world, taken)? {
         return Ok(false);
     }
-    let gone = gone_with(world, &record.event);
-    let coming = coming_with(world, &record.event, record.reply);
-    change(alloc, at, world, &record.event, record.reply)?;
-    move_tables(
-        alloc,
-        world,
-        gone,
-        coming,
-        &record.event,
-        record.reply,
-        taken,
-        given,
-    )
+    let (event, reply) = (record.event(), record.reply());
+    let gone = gone_with(world, event);
+    let coming = coming_with(world, event, reply);
+    change(alloc, at, world, event, reply)?;
+    move_tables(alloc, world, gone, coming, event, reply, taken, given)
 }
 
 /// Whether the record is lawful at this position. If it is, the world becomes the one after it. The error is want of
@@ -81,10 +71,11 @@ pub fn step<A: Allocator + Copy>(
     ensures after { IfOk result (λ lawful. IsTrue lawful →
         unwritten world.new ≡ unwritten (after at world.old record.now)) }
 {
-    if let Some(cause) = refusal(alloc, at, world, &record.event)? {
+    let event = record.event();
+    if let Some(cause) = refusal(alloc, at, world, event)? {
         return Ok(is_refused(record, cause));
     }
-    if !may_answer(alloc, at, world, &record.event, record.reply)? {
+    if !may_answer(alloc, at, world, event, record.reply())? {
         return Ok(false);
     }
     go_on(alloc, at, world, record)

@@ -1,10 +1,10 @@
 -- What every run keeps.
 use Rattle.std.proofs.Common.{◌≡◌, true, List, length, refl, arith}
 use Rattle.iofd_steps.specs.Run.{IsRun, world_of}
+use Rattle.iofd_words.specs.Record.{Record}
 use Rattle.iofd_words.specs.Settings.{Settings}
 use Rattle.iofd_words.specs.Tables.{with_tables}
 use Rattle.iofd_words.specs.World.{opening}
-use Rattle.iofd_words.specs.declared.record.Record.{Record}
 use Rattle.iofd_runs.specs.Apart.{are_apart}
 use Rattle.iofd_runs.specs.Fits.{RowsFit}
 use Rattle.iofd_runs.specs.PinsFit.{AccessPinsFit}

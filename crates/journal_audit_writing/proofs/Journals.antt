@@ -1,8 +1,8 @@
 -- Records, one behind the other.
 use Rattle.std.proofs.Common.{◌≡◌, ℕ, zero, suc, ◌+◌, ◌<◌, List, [], ◌∷◌, ◌++◌, length, get_or, take, refl, sym, ap}
 use Rattle.std.proofs.Common.{subst, ◌∙◌, append_assoc, append-nil, arith}
+use Rattle.iofd_words.specs.Record.{Record}
 use Rattle.iofd_words.specs.Settings.{Settings}
-use Rattle.iofd_words.specs.declared.record.Record.{Record}
 use Rattle.journal_audit_bytes.specs.Journal.{HasSpelling, IsFirstUnspelt, SpellRecords, SpellsRecord}
 use Rattle.journal_audit_bytes.specs.declared.version.Version.TheVariants.{Two}
 use Rattle.journal_audit_writing.proofs.Appended.{take_next, then}

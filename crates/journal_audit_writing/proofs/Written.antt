@@ -8,6 +8,7 @@ use Rattle.iofd_words.specs.Bounds.{Bounds}
 use Rattle.iofd_words.specs.Fault.{reason_number}
 use Rattle.iofd_words.specs.Files.{device_of}
 use Rattle.iofd_words.specs.Pages.{page_of}
+use Rattle.iofd_words.specs.Record.{Record}
 use Rattle.iofd_words.specs.Refusal.{errno_number, number_of}
 use Rattle.iofd_words.specs.Settings.{DeviceSettings, Settings}
 use Rattle.iofd_words.specs.declared.event.Event.{Event}
@@ -17,7 +18,6 @@ use Rattle.iofd_words.specs.declared.fault.Fault.{Fault}
 use Rattle.iofd_words.specs.declared.fault.FaultReason.{FaultReason}
 use Rattle.iofd_words.specs.declared.fault.FaultReason.TheVariants.{NoContext, BeyondWidth, WriteDenied, ReadDenied}
 use Rattle.iofd_words.specs.declared.numbers.FrameNo.{FrameNo}
-use Rattle.iofd_words.specs.declared.record.Record.{Record}
 use Rattle.iofd_words.specs.declared.refusal.Cause.{Cause}
 use Rattle.iofd_words.specs.declared.refusal.Cause.TheVariants as cause
 use Rattle.iofd_words.specs.declared.refusal.Errno.{Errno}

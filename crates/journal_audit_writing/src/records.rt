@@ -33,11 +33,11 @@ fn spell_record<A: Allocator, B: Allocator>(
     ensures bytes { Appends result out.old.items out.new.items (record_text «record».now) }
     ensures fits { OnOk result (RecordFits «record».now) }
 {
-    Number::U16(record.pass.0).spell(out)?;
-    spell_event(out, &record.event)?;
-    spell_reply(out, &record.reply)?;
-    spell_frames(out, record.taken.as_slice())?;
-    spell_frames(out, record.given.as_slice())
+    Number::U16(record.pass().0).spell(out)?;
+    spell_event(out, record.event())?;
+    spell_reply(out, &record.reply())?;
+    spell_frames(out, record.taken())?;
+    spell_frames(out, record.given())
 }
 
 /// Appends the bytes of a record of a journal of version 2 with this configuration. The error is Unspelt where the

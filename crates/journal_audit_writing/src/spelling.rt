@@ -50,9 +50,9 @@ fn is_own_reply<A: Allocator, B: Allocator>(
 pub fn is_spelt<A: Allocator, B: Allocator>(config: &Config<A>, record: &Record<B>) -> bool
     ensures { MatchBool result (IsSpelt config.now «record».now) (¬ IsSpelt config.now «record».now) }
 {
-    record.pass.0 < config.passes()
-        && is_kept_event(&record.event)
-        && is_own_reply(config, &record.event, &record.reply)
-        && record.taken.as_slice().len() < 0x1_0000
-        && record.given.as_slice().len() < 0x1_0000
+    record.pass().0 < config.passes()
+        && is_kept_event(record.event())
+        && is_own_reply(config, record.event(), &record.reply())
+        && record.taken().len() < 0x1_0000
+        && record.given().len() < 0x1_0000
 }

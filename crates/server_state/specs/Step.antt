@@ -17,11 +17,11 @@ use Rattle.iofd_rows.specs.Pinned.{ArePinned, share_in_files}
 use Rattle.iofd_words.specs.World.{World}
 use Rattle.iofd_words.specs.FirstTrue.{first_true}
 use Rattle.iofd_steps.specs.Look.{query_checks}
+use Rattle.iofd_words.specs.Record.{Record}
 use Rattle.iofd_words.specs.View.{view}
 use Rattle.iofd_words.specs.declared.event.Event.{Event}
 use Rattle.iofd_words.specs.declared.query.Query.{Query}
 use Rattle.iofd_words.specs.declared.numbers.FrameNo.{FrameNo}
-use Rattle.iofd_words.specs.declared.record.Record.{Record}
 use Rattle.iofd_words.specs.declared.reply.Reply.{Reply}
 use Rattle.iofd_steps.specs.Run.{Lawful, after}
 use Rattle.iofd_words.specs.Tables.{MovesTables, with_tables}

@@ -28,6 +28,7 @@ use Rattle.iofd_words.specs.Files.{is_device}
 use Rattle.iofd_steps.specs.Look.{answers_to}
 use Rattle.iofd_words.specs.Pages.{page_of}
 use Rattle.iofd_steps.specs.Run.{IsRun}
+use Rattle.iofd_words.specs.Record.{Record}
 use Rattle.iofd_words.specs.Settings.{Settings}
 use Rattle.iofd_words.specs.Turns.{turns_of}
 use Rattle.iofd_words.specs.declared.fault.AccessKind.{AccessKind}
@@ -36,7 +37,6 @@ use Rattle.iofd_words.specs.declared.numbers.DeviceNo.{DeviceNo}
 use Rattle.iofd_words.specs.declared.query.Answer.{Answer}
 use Rattle.iofd_words.specs.declared.query.Query.TheVariants as query
 use Rattle.iofd_words.specs.declared.query.Translation.{Translation}
-use Rattle.iofd_words.specs.declared.record.Record.{Record}
 use Rattle.iommufd_core.specs.History.{History, may_apply, world}
 use Rattle.lane_lock.specs.History.{Legal, StartsWith}
 use Rattle.lane_lock.specs.Outcomes.{OnlySees}

@@ -4,6 +4,7 @@ use Rattle.std.specs.declared.alloc.Global.{Global}
 use Rattle.iofd_words.specs.Bounds.{Bounds}
 use Rattle.iofd_words.specs.FirstTrue.{first_true}
 use Rattle.iofd_steps.specs.Look.{AreUsableRanges, ranges_checks}
+use Rattle.iofd_words.specs.Record.{Record}
 use Rattle.iofd_words.specs.Refusal as refusals
 use Rattle.iofd_words.specs.Settings.{Settings}
 use Rattle.iofd_words.specs.View.{view}
@@ -15,7 +16,6 @@ use Rattle.iofd_words.specs.declared.numbers.FileNo.{FileNo}
 use Rattle.iofd_words.specs.declared.query.Answer.{Answer}
 use Rattle.iofd_words.specs.declared.query.Answer.TheVariants as looked
 use Rattle.iofd_words.specs.declared.query.Query.TheVariants as query
-use Rattle.iofd_words.specs.declared.record.Record.{Record}
 use Rattle.iofd_words.specs.declared.refusal.Cause.{Cause}
 use Rattle.iofd_words.specs.declared.refusal.Errno.{Errno}
 use Rattle.iofd_words.specs.declared.refusal.NoMemory.{NoMemory}

@@ -1,9 +1,9 @@
 -- What a call makes.
 use Rattle.std.specs.Prelude.{◌≡◌, ℕ, Option, Some, None, Result, Ok, Err, List, [], ◌∷◌, ◌++◌, map}
+use Rattle.iofd_words.specs.Record.{Record}
 use Rattle.iofd_words.specs.Settings.{Settings}
 use Rattle.iofd_words.specs.declared.event.Act.{Act}
 use Rattle.iofd_words.specs.declared.event.Event.{Event}
-use Rattle.iofd_words.specs.declared.record.Record.{Record}
 use Rattle.iommufd_core.specs.declared.apply.Stamp.{Stamp}
 use Rattle.lane_lock.specs.History.{StartsWith, made_by}
 use Rattle.lane_lock.specs.Outcomes.{HadNoLane}

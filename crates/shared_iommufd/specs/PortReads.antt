@@ -3,6 +3,7 @@ use Rattle.std.specs.Prelude.{◌≡◌, ℕ, ◌+◌, ◌-◌, ◌<◌, None, R
 use Rattle.std.specs.Prelude.{Contains}
 use Rattle.iofd_steps.specs.Look.{answers_to}
 use Rattle.iofd_words.specs.Pages.{page_of}
+use Rattle.iofd_words.specs.Record.{Record}
 use Rattle.iofd_words.specs.Settings.{Settings}
 use Rattle.iofd_words.specs.Turns.{turns_of}
 use Rattle.iofd_words.specs.declared.fault.AccessKind.TheVariants.{Read}
@@ -10,7 +11,6 @@ use Rattle.iofd_words.specs.declared.numbers.DeviceNo.{DeviceNo}
 use Rattle.iofd_words.specs.declared.query.Answer.{Answer}
 use Rattle.iofd_words.specs.declared.query.Answer.TheVariants as answer
 use Rattle.iofd_words.specs.declared.query.Query.TheVariants as query
-use Rattle.iofd_words.specs.declared.record.Record.{Record}
 use Rattle.lane_lock.specs.Outcomes.{HadLane, HadNone, OnlySees, RefusesRead}
 use Rattle.lane_lock.specs.Passes.{SamePass, lane_of, view_of}
 use Rattle.port_cache.specs.Cached.{Leaves, compared}

@@ -1,13 +1,13 @@
 -- A port's translations.
 use Rattle.std.specs.Prelude.{◌≡◌, ℕ, List, Option, IfSome, Result, Ok, Err, IsTrue}
 use Rattle.iofd_words.specs.Pages.{page_of}
+use Rattle.iofd_words.specs.Record.{Record}
 use Rattle.iofd_words.specs.Rights.{has_right}
 use Rattle.iofd_words.specs.Settings.{Settings}
 use Rattle.iofd_words.specs.Turns.{turns_of}
 use Rattle.iofd_words.specs.declared.fault.AccessKind.{AccessKind}
 use Rattle.iofd_words.specs.declared.numbers.DeviceNo.{DeviceNo}
 use Rattle.iofd_words.specs.declared.query.Translation.{Translation}
-use Rattle.iofd_words.specs.declared.record.Record.{Record}
 use Rattle.lane_lock.specs.Outcomes.{HadLane, MetNone, OnlySees, RefusesRead}
 use Rattle.lane_lock.specs.Passes.{lane_of, view_of}
 use Rattle.lane_lock.specs.declared.refusal.NotNow.{NotNow}

@@ -3,13 +3,13 @@ use Rattle.std.specs.Prelude.{◌≡◌, ℕ, List, Result, Ok, Err, Vec}
 use Rattle.iofd_words.specs.Bounds.{Bounds}
 use Rattle.iofd_steps.specs.Look.{answers_to}
 use Rattle.iofd_steps.specs.Run.{IsRun}
+use Rattle.iofd_words.specs.Record.{Record}
 use Rattle.iofd_words.specs.Settings.{Settings}
 use Rattle.iofd_words.specs.declared.call_error.CallError.{CallError}
 use Rattle.iofd_words.specs.declared.numbers.FileNo.{FileNo}
 use Rattle.iofd_words.specs.declared.numbers.ObjId.{ObjId}
 use Rattle.iofd_words.specs.declared.query.Answer.{Answer}
 use Rattle.iofd_words.specs.declared.query.Query.{Query}
-use Rattle.iofd_words.specs.declared.record.Record.{Record}
 use Rattle.journal_audit_writing.specs.declared.whole.JournalError.{JournalError}
 use Rattle.lane_lock.specs.History.{Legal}
 use Rattle.lane_lock.specs.Outcomes.{HadLane, MetNone, RefusesRead}

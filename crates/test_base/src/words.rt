@@ -2,7 +2,7 @@
 
 use iofd_words::{
     AccessKind, Burst, Cause, Config, ConfigError, DeviceNo, DeviceSet, FaultReason, FrameList,
-    FrameNo, MapFlags, Rights, Span, SpanList, UserNo, Width,
+    FrameNo, MapFlags, MovedFrames, Rights, Span, SpanList, UserNo, Width,
 };
 use std::alloc::Global;
 
@@ -174,6 +174,25 @@ fn lists_frames(alloc: Global, given: &[FrameNo]) -> bool {
         }
         Err(_) => false,
     }
+}
+
+// Whether both lists of frames are told as they were handed in.
+fn tells_both(alloc: Global, taken: &[FrameNo], given: &[FrameNo]) -> bool {
+    match (taken.to_vec(alloc), given.to_vec(alloc)) {
+        (Ok(first), Ok(others)) => match MovedFrames::new(first, others) {
+            Ok(moved) => moved.taken() == taken && moved.given() == given,
+            Err(_) => false,
+        },
+        _ => false,
+    }
+}
+
+#[test]
+fn the_frames_that_a_step_moves_are_told(rt: HostRuntime) {
+    let frames = &[FrameNo(2), FrameNo(3)];
+    assert!(rt; tells_both(rt.alloc(), frames, &[]));
+    assert!(rt; tells_both(rt.alloc(), &[], frames));
+    assert!(rt; tells_both(rt.alloc(), &[FrameNo(5)], frames));
 }
 
 // Whether a list of spans gives this one.

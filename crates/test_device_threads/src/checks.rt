@@ -19,7 +19,7 @@ fn record_of<'a>(records: &'a [Record], came: &JobResult) -> Option<&'a Record> 
 
 // Whether the record is of the task of the device.
 fn is_of(record: &Record, device: DeviceNo, task: Task) -> bool {
-    match (&record.event, task) {
+    match (record.event(), task) {
         (Event::Attach(of, _), Task::Attach) => *of == device,
         (Event::Detach(of), Task::Detach) => *of == device,
         (Event::Flush(of), Task::Flush) => *of == device,
@@ -43,7 +43,7 @@ fn tells(outcome: &Outcome, reply: Reply) -> bool {
 // Whether the journal has the record of the result where it says, and else it is a read's.
 fn is_recorded(records: &[Record], device: DeviceNo, task: Task, came: &JobResult) -> bool {
     match record_of(records, came) {
-        Some(record) => is_of(record, device, task) && tells(&came.outcome, record.reply),
+        Some(record) => is_of(record, device, task) && tells(&came.outcome, record.reply()),
         None => came.at == None && matches!(task, Task::Read | Task::Probe),
     }
 }

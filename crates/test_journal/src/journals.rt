@@ -3,8 +3,8 @@
 use crate::heads::{LARGE, SMALL, behind_head};
 use crate::records::RECORDS;
 use iofd_words::{
-    AccessKind, Burst, Config, CopyRequest, DeviceNo, Event, Fault, FaultReason, FileNo, FrameList,
-    FrameNo, Iova, MapFlags, MapRequest, ObjId, PassNo, Record, Reply, SourceId, UserNo,
+    AccessKind, Burst, Config, CopyRequest, DeviceNo, Event, Fault, FaultReason, FileNo, FrameNo,
+    Iova, MapFlags, MapRequest, MovedFrames, ObjId, PassNo, Record, Reply, SourceId, UserNo,
 };
 use journal_audit_bytes::{SpelledRecord, Version, read_head, read_record, typed_reply};
 use journal_audit_writing::{JournalError, journal, write_record};
@@ -42,7 +42,7 @@ const EACH: &[u8] = b"\x02\0\x01\x01\0\0\0\0\0\0\
       \0\0\0\0\0\0\0\0\0\0\0\0\0\0\0\0\0\0\0\0\0\0\0\x80\0\0\0\0\
       \0\0\x89\x01\0\x02\0\0\0\x01\0\0\0\x01\x05\0\0\0\0\0\0\0";
 
-// The record that the bytes tell, if they tell one.
+// The record that the bytes tell, if they tell one and there is memory for it.
 fn typed<A: Allocator, B: Allocator>(
     config: &Config<B>,
     spelled: SpelledRecord<A>,
@@ -55,13 +55,8 @@ fn typed<A: Allocator, B: Allocator>(
         given,
     } = spelled;
     let reply = typed_reply(config, &event, reply)?;
-    Some(Record {
-        pass,
-        event,
-        reply,
-        taken,
-        given,
-    })
+    let frames = MovedFrames::new(taken.into_vec(), given.into_vec()).ok()?;
+    Some(Record::new(pass, event, reply, frames))
 }
 
 // The records that the bytes tell, up to 32, if they tell records to their end.
@@ -126,14 +121,15 @@ fn each_event_is_written(rt: HostRuntime) {
     assert!(rt; is_written_again(rt.alloc(), LARGE, EACH, 27));
 }
 
-fn record_of<A: Allocator + Copy>(alloc: A, pass: u16, event: Event<A>, reply: Reply) -> Record<A> {
-    Record {
-        pass: PassNo(pass),
-        event,
-        reply,
-        taken: FrameList::new(Vec::new(alloc)),
-        given: FrameList::new(Vec::new(alloc)),
-    }
+// The record of a step that moved no frames.
+fn record_of<A: Allocator + Copy>(
+    alloc: A,
+    pass: u16,
+    event: Event<A>,
+    reply: Reply,
+) -> Option<Record<A>> {
+    let frames = MovedFrames::new(Vec::new(alloc), Vec::new(alloc)).ok()?;
+    Some(Record::new(PassNo(pass), event, reply, frames))
 }
 
 fn map<A: Allocator>(flags: u32, iova: u64) -> Event<A> {
@@ -246,7 +242,7 @@ fn is_case_spelt<A: Allocator + Copy, B: Allocator>(
     case: &(u16, What, Said),
 ) -> Option<bool> {
     let (pass, what, said) = *case;
-    let record = record_of(alloc, pass, event_of(what)?, reply_of(said));
+    let record = record_of(alloc, pass, event_of(what)?, reply_of(said))?;
     is_spelt(alloc, config, &record)
 }
 
@@ -271,7 +267,7 @@ fn is_told<A: Allocator + Copy, B: Allocator>(alloc: A, config: &Config<B>) -> O
     for pass in 0..3 {
         let event = Event::UserMap(UserNo(1), 0x1_0000);
         records
-            .push(record_of(alloc, pass, event, Reply::Frame(FrameNo(0))))
+            .push(record_of(alloc, pass, event, Reply::Frame(FrameNo(0)))?)
             .ok()?;
     }
     let told = journal(alloc, config, records.as_slice()).err();

@@ -289,9 +289,9 @@ fn lends<R: Wait>(
 
 // Whether the port's pass made a record of the device's write of so many bytes at the address.
 fn is_write(record: &Record, address: u64, len: usize) -> bool {
-    match &record.event {
+    match record.event() {
         Event::DeviceWrite(device, iova, bytes) => {
-            record.pass == PassNo(1)
+            record.pass() == PassNo(1)
                 && *device == DeviceNo(1)
                 && iova.0 == address
                 && bytes.as_slice().len() == len

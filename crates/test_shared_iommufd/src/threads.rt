@@ -35,7 +35,7 @@ fn work<R: Threads + Wait + Sync>(rt: &R, server: &Server, passes: &mut Vec<Pass
 
 // Whether the record is the pass's call, as its operation of this number.
 fn is_call(record: &Record, pass: PassNo, number: u32) -> bool {
-    match &record.event {
+    match record.event() {
         Event::UserWrite(_, va, bytes) => {
             *va == va_of(page_of(pass)) && bytes.as_slice().first() == Some(&byte_of(number))
         }
@@ -47,7 +47,7 @@ fn is_call(record: &Record, pass: PassNo, number: u32) -> bool {
 fn has_calls(records: &[Record], pass: PassNo) -> bool {
     let mut number = 1;
     for record in records {
-        if record.pass == pass {
+        if record.pass() == pass {
             if number >= COUNT || !is_call(record, pass, number) {
                 return false;
             }

@@ -1,5 +1,5 @@
 use Rattle.std.proofs.Common.{Bool, true, List, ◌++◌, refl, subst, sym}
-use Rattle.iofd_words.specs.declared.record.Record.{Record}
+use Rattle.iofd_words.specs.Record.{Record}
 use Rattle.iommufd_cli.specs.Failures.{BeginsEnd, BeginsLines}
 use Rattle.iommufd_cli.specs.Journal.{EndText}
 use Rattle.iommufd_cli.specs.Session.{StepsText}

@@ -329,7 +329,8 @@ returns-in-AllowIovas-clause-memory g c = on_err c.commit-in-AllowIovas.result _
 pub returns-in-Map-clause-err : goal.returns-in-Map-clause-err
 returns-in-Map-clause-err g c = c.commit-in-Map.ensures.err
 
--- ---- an UNMAP wants for memory only where it doesn't wait and some table goes; of the others no more is said
+-- ---- an UNMAP wants for memory only where it doesn't wait and some table goes, a device's write only where it may
+-- pass and its mark is the first among its 64 pages; of the others no more is said
 
 pub returns-in-Unmap-clause-lacking : goal.returns-in-Unmap-clause-lacking
 returns-in-Unmap-clause-lacking g c = on_both c.commit-in-Unmap.result _ _ _
@@ -383,8 +384,9 @@ returns-in-Detach-clause-lacking g c =
     on_err_same c.commit-in-Detach.result _ (λ at w tidy shows none. lack_as w _ _ c.in-Detach.is refl)
 
 pub returns-in-DeviceWrite-clause-lacking : goal.returns-in-DeviceWrite-clause-lacking
-returns-in-DeviceWrite-clause-lacking g c =
-    on_err_same c.commit-in-DeviceWrite.result _ (λ at w tidy shows none. lack_as w _ _ c.in-DeviceWrite.is refl)
+returns-in-DeviceWrite-clause-lacking g c = on_err c.commit-in-DeviceWrite.result _ _
+    (λ lacking at w tidy shows none. lack_as w _ _ c.in-DeviceWrite.is (lacking at w tidy shows))
+    c.commit-in-DeviceWrite.ensures.lacking
 
 pub returns-in-AccessCreate-clause-lacking : goal.returns-in-AccessCreate-clause-lacking
 returns-in-AccessCreate-clause-lacking g c =

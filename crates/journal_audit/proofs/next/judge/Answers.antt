@@ -10,10 +10,10 @@ pub returns-in-Some : goal.returns-in-Some
 returns-in-Some g c =
     if_judged c.args.at c.args.world.now c.step.new.world (raw_of c.args.spelled) c.in-Some.record c.step.result
     (subst (λ (s : Settings). Tells s (raw_of c.args.spelled) c.in-Some.record)
-    (ap (λ (w : World). w.settings) c.world.view_is) c.in-Some.ensures.told)
+    (ap (λ (w : World). w.settings) c.world.view_is) (rw c.in-Some.is at c.in_ok-record.ensures.told))
     c.step.ensures.lawful c.step.ensures.after
 
 pub returns-in-None : goal.returns-in-None
 returns-in-None g c = λ r tells lawful.
-    c.in-None.ensures.none r (subst (λ (s : Settings). Tells s (raw_of c.args.spelled) r)
+    (rw c.in-None.is at c.in_ok-record.ensures.none) r (subst (λ (s : Settings). Tells s (raw_of c.args.spelled) r)
     (sym (ap (λ (w : World). w.settings) c.world.view_is)) tells)

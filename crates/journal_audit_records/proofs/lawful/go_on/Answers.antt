@@ -19,42 +19,44 @@ are_free_in w frames =
 pub returns-then-not-branch-clause-lawful : goal.returns-then-not-branch-clause-lawful
 returns-then-not-branch-clause-lawful g c =
     not_free c.args.at c.args.world.now c.args.record.now c.requires.granted
-    (subst (λ (frames : List FrameNo). are_free_in c.args.world.now frames ≡ false) c.as_slice-taken.ensures
+    (subst (λ (frames : List FrameNo). are_free_in c.args.world.now frames ≡ false) c.taken-taken.ensures
     (sym c.in_ok-are_free.ensures ∙ c.if-not-branch.true))
 
 pub move_tables-requires : goal.move_tables-requires
 move_tables-requires g c =
     subst (λ (what : Coming). ComingFits what) (sym c.coming_with-coming.ensures)
-    (coming_fits c.args.world.now c.args.record.now.event c.args.record.now.reply c.requires.granted c.requires.answered)
+    (rw (c.event-event.ensures, c.reply-reply.ensures) (coming_fits c.args.world.now c.args.record.now.event
+    c.args.record.now.reply c.requires.granted c.requires.answered))
 
 pub returns-clause-lawful : goal.returns-clause-lawful
 returns-clause-lawful g c =
     if_ok_weaker c.move_tables.result _ _
-    (λ moved decides. by_moves c.args.at c.args.world.now c.args.record.now _ _ moved c.as_slice-taken.ensures
-    c.as_slice-given.ensures c.requires.granted c.requires.answered
-    (decides c.args.at c.args.world.now (record {
+    (λ moved decides. by_moves c.args.at c.args.world.now c.args.record.now _ _ moved c.taken-taken.ensures
+    c.given-given.ensures c.requires.granted c.requires.answered
+    (rw (c.event-event.ensures, c.reply-reply.ensures) at (decides c.args.at c.args.world.now (record {
       kept = c.requires.kept;
-      granted = c.requires.granted;
-      answers = c.requires.answered;
+      granted = rw c.event-event.ensures c.requires.granted;
+      answers = rw (c.event-event.ensures, c.reply-reply.ensures) c.requires.answered;
       changed = c.in_ok-change.ensures;
       goes = c.gone_with-gone.ensures;
       comes = c.coming_with-coming.ensures;
       free = sym c.in_ok-are_free.ensures ∙ c.if-not-branch.false;
-    })))
+    }))))
     c.move_tables.ensures.moved
 
 pub returns-clause-after : goal.returns-clause-after
 returns-clause-after g c =
     if_ok_weaker c.move_tables.result _ _
-    (λ moved leads yes. leads c.args.at c.args.world.now (record {
+    (λ moved leads yes. (rw (c.event-event.ensures, c.reply-reply.ensures) at
+    (leads c.args.at c.args.world.now (record {
       kept = c.requires.kept;
-      granted = c.requires.granted;
-      answers = c.requires.answered;
+      granted = rw c.event-event.ensures c.requires.granted;
+      answers = rw (c.event-event.ensures, c.reply-reply.ensures) c.requires.answered;
       changed = c.in_ok-change.ensures;
       goes = c.gone_with-gone.ensures;
       comes = c.coming_with-coming.ensures;
       free = sym c.in_ok-are_free.ensures ∙ c.if-not-branch.false;
-    }) yes
+    }) yes))
     ∙ ap (λ (w : World). unwritten w) (after_moves c.args.at c.args.world.now c.args.record.now _ _
-    c.as_slice-taken.ensures c.as_slice-given.ensures c.requires.granted))
+    c.taken-taken.ensures c.given-given.ensures c.requires.granted))
     c.move_tables.ensures.after

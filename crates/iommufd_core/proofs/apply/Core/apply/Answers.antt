@@ -1,4 +1,5 @@
-use Rattle.std.proofs.Common.{◌≡◌, None, length, inl, inr, refl, ◌∙◌, ap, subst, sym, arith, vec_capacity, vec_len}
+use Rattle.std.proofs.Common.{◌≡◌, ◌≤◌, ◌-◌, None, length, inl, inr, refl, ◌∙◌, ap, subst, sym, arith}
+use Rattle.std.proofs.Common.{vec_capacity, vec_len}
 use Rattle.iofd_refusals.specs.Checks.{refusal}
 use Rattle.iofd_steps.specs.Run.{world_of}
 use Rattle.iommufd_core.proofs.Applied.{may_use, unchanged_config, unchanged_kept, applied_chosen, applied_config}
@@ -20,7 +21,7 @@ invariant_of-self-in_default-answer g c =
     let at : c.len-at.result ≡ length c.self.inside.records.items = c.len-at.ensures ∙ c.self.inside.records.ok.0 in
     let stays =
     subst (λ n. TidyShowsSame n c.self.inside.state c.answer.new.state) at c.in_default-answer.ensures.err in
-    rw c.reserve.ensures.items (unchanged_kept c.self.inside.state c.answer.new.state
+    rw c.make_room.ensures.items (unchanged_kept c.self.inside.state c.answer.new.state
     c.self.inside.turns.items c.self.inside.records.items c.self.invariant stays)
 
 pub returns-in_default-answer-clause-run : goal.returns-in_default-answer-clause-run
@@ -34,7 +35,7 @@ returns-in_default-answer-clause-unchanged g c =
     let config =
     unchanged_config c.self.inside.state c.answer.new.state c.self.inside.turns.items c.self.inside.records.items
     c.self.invariant stays in
-    rw (config, c.reserve.ensures.items) (ap (λ (s : Server _). s.history) c.self.view_is)
+    rw (config, c.make_room.ensures.items) (ap (λ (s : Server _). s.history) c.self.view_is)
 
 pub invariant_of-self-2 : goal.invariant_of-self-2
 invariant_of-self-2 g c =
@@ -52,7 +53,13 @@ invariant_of-self-2 g c =
     (rw (← c.self.view_is) at c.requires) in
     let kept = applied_kept old new c.self.inside.turns.items records c.self.invariant c.args.pass act.event act.via
     c.in-Ok-answer.reply taken given may answered c.count.new.counts.items c.count.ensures in
-    rw (c.push_reserved.ensures.items, c.reserve.ensures.items, c.in-Ok.ensures.ok, c.new.ensures, c.new-2.ensures) kept
+    rw (
+      c.push_reserved.ensures.items,
+      c.make_room.ensures.items,
+      c.new-2.ensures,
+      c.in-Ok-new.ensures.ok,
+      c.in-Ok.ensures.ok,
+    ) kept
 
 pub returns-clause-record : goal.returns-clause-record
 returns-clause-record g c =
@@ -76,10 +83,10 @@ returns-clause-record g c =
       records = rw (
         config,
         c.push_reserved.ensures.items,
-        c.reserve.ensures.items,
-        c.in-Ok.ensures.ok,
-        c.new.ensures,
+        c.make_room.ensures.items,
         c.new-2.ensures,
+        c.in-Ok-new.ensures.ok,
+        c.in-Ok.ensures.ok,
       ) refl;
       pass = refl;
       event = refl;
@@ -150,7 +157,7 @@ answer-requires-clause-none_given g c = c.new-given.ensures.items
 -- ---- where there is no place for the record, or for its list
 
 pub invariant_of-self : goal.invariant_of-self
-invariant_of-self g c = rw c.reserve.ensures.items c.self.invariant
+invariant_of-self g c = rw c.make_room.ensures.items c.self.invariant
 
 pub returns-then-is_err-clause-run : goal.returns-then-is_err-clause-run
 returns-then-is_err-clause-run g c = (invariant_of-self g c).run
@@ -158,14 +165,15 @@ returns-then-is_err-clause-run g c = (invariant_of-self g c).run
 pub returns-then-is_err-clause-memory : goal.returns-then-is_err-clause-memory
 returns-then-is_err-clause-memory g c =
     let records = c.self.inside.records in
-    rw (← c.self.view_is) (inl (inl (no_room c.reserve.result (vec_len records) (vec_capacity records)
-    c.reserve.ensures.succeeds (sym c.is_err.ensures.value ∙ c.if-is_err.true))))
+    rw (← c.self.view_is) (inl (inl (no_room c.make_room.result (vec_len records) (vec_capacity records)
+    c.make_room.ensures.full (sym c.is_err.ensures.value ∙ c.if-is_err.true))))
 
 pub returns-then-is_err-clause-unchanged : goal.returns-then-is_err-clause-unchanged
-returns-then-is_err-clause-unchanged g c = rw c.reserve.ensures.items (ap (λ (s : Server _). s.history) c.self.view_is)
+returns-then-is_err-clause-unchanged g c =
+    rw c.make_room.ensures.items (ap (λ (s : Server _). s.history) c.self.view_is)
 
 pub invariant_of-self-in_default : goal.invariant_of-self-in_default
-invariant_of-self-in_default g c = rw c.reserve.ensures.items c.self.invariant
+invariant_of-self-in_default g c = rw c.make_room.ensures.items c.self.invariant
 
 pub returns-in_default-clause-run : goal.returns-in_default-clause-run
 returns-in_default-clause-run g c = (invariant_of-self-in_default g c).run
@@ -174,7 +182,8 @@ pub returns-in_default-clause-memory : goal.returns-in_default-clause-memory
 returns-in_default-clause-memory g c = inl (inr c.in_default.ensures.memory)
 
 pub returns-in_default-clause-unchanged : goal.returns-in_default-clause-unchanged
-returns-in_default-clause-unchanged g c = rw c.reserve.ensures.items (ap (λ (s : Server _). s.history) c.self.view_is)
+returns-in_default-clause-unchanged g c =
+    rw c.make_room.ensures.items (ap (λ (s : Server _). s.history) c.self.view_is)
 
 -- ---- where there is
 
@@ -186,10 +195,32 @@ count-requires g c =
 
 pub push_reserved-requires : goal.push_reserved-requires
 push_reserved-requires g c =
-    let roomy = of_success c.reserve.result _ c.reserve.ensures.ok (sym c.is_err.ensures.value ∙ c.if-is_err.false) in
+    let roomy = of_success c.make_room.result _ c.make_room.ensures.ok
+    (sym c.is_err.ensures.value ∙ c.if-is_err.false) in
     omega (arith, roomy)
 
 pub returns-clause-at : goal.returns-clause-at
 returns-clause-at g c =
     let at : c.len-at.result ≡ length c.self.inside.records.items = c.len-at.ensures ∙ c.self.inside.records.ok.0 in
     at ∙ ap (λ (s : Server _). length s.history.records) c.self.view_is
+
+pub returns-clause-doubles : goal.returns-clause-doubles
+returns-clause-doubles g c = λ none.
+    let records = c.self.inside.records in
+    let doubled = of_success c.make_room.result _ c.make_room.ensures.doubled
+    (sym c.is_err.ensures.value ∙ c.if-is_err.false) in
+    let room : vec_capacity records - vec_len records ≡ c.args.self.now.room = ap (λ (s : Server _). s.room)
+    c.self.view_is in
+    let count : length records.items ≡ length c.args.self.now.history.records =
+    ap (λ (s : Server _). length s.history.records) c.self.view_is in
+    let full : vec_capacity records ≤ vec_len records = omega (arith, room, none) in
+    let twice = doubled full in
+    omega (
+      arith,
+      twice,
+      c.push_reserved.ensures.len,
+      c.push_reserved.ensures.capacity,
+      c.make_room.ensures.len,
+      count,
+      records.ok.0,
+    )

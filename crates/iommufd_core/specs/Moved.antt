@@ -1,0 +1,7 @@
+-- The table frames that an event moves.
+use Rattle.std.specs.Prelude.{◌≡◌, ◌⊎◌, List, []}
+use Rattle.iofd_words.specs.declared.numbers.FrameNo.{FrameNo}
+
+-- it takes none, or gives none back
+abbrev pub MovesOneWay : List FrameNo → List FrameNo → Type 0
+MovesOneWay taken given = (taken ≡ []) ⊎ (given ≡ [])
