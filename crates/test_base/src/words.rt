@@ -4,6 +4,7 @@ use iofd_words::{
     AccessKind, Burst, Cause, Config, ConfigError, DeviceNo, DeviceSet, FaultReason, FrameList,
     FrameNo, MapFlags, MovedFrames, Rights, Span, SpanList, UserNo, Width,
 };
+use linked_list_allocator::LocalHeap;
 use std::alloc::Global;
 
 // The first and the last number of a span of this length.
@@ -193,6 +194,27 @@ fn the_frames_that_a_step_moves_are_told(rt: HostRuntime) {
     assert!(rt; tells_both(rt.alloc(), frames, &[]));
     assert!(rt; tells_both(rt.alloc(), &[], frames));
     assert!(rt; tells_both(rt.alloc(), &[FrameNo(5)], frames));
+}
+
+// Whether these frames, taken and given back, want for memory once a block takes what is left of the heap.
+fn are_refused_behind_a_block(heap: &LocalHeap, frames: &[FrameNo]) -> bool {
+    let (Ok(taken), Ok(given)) = (frames.to_vec(heap), frames.to_vec(heap)) else {
+        return false;
+    };
+    match Vec::<u8, &LocalHeap>::with_capacity(heap, heap.free()) {
+        Ok(_block) => MovedFrames::new(taken, given).is_err(),
+        Err(_) => false,
+    }
+}
+
+#[test]
+fn frames_of_both_kinds_want_for_memory(rt: HostRuntime) {
+    let frames = &[FrameNo(2), FrameNo(3), FrameNo(5), FrameNo(7)];
+    let is_refused = match LocalHeap::new(rt.alloc(), 1 << 12) {
+        Ok(heap) => are_refused_behind_a_block(&heap, frames),
+        Err(_) => false,
+    };
+    assert!(rt; is_refused);
 }
 
 // Whether a list of spans gives this one.
