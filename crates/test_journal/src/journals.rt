@@ -1,7 +1,6 @@
-//! Journals that are written: the example of the format, each kind of event once, and records that have no spelling.
+//! Journals that are written: each kind of event once, and records that have no spelling.
 
 use crate::heads::{LARGE, SMALL, behind_head};
-use crate::records::RECORDS;
 use iofd_words::{
     AccessKind, Burst, Config, CopyRequest, DeviceNo, Event, Fault, FaultReason, FileNo, FrameNo,
     Iova, MapFlags, MapRequest, MovedFrames, ObjId, PassNo, Record, Reply, SourceId, UserNo,
@@ -109,11 +108,6 @@ fn is_written_again<A: Allocator + Copy>(
         },
         Err(_) => false,
     }
-}
-
-#[test]
-fn the_example_is_written(rt: HostRuntime) {
-    assert!(rt; is_written_again(rt.alloc(), SMALL, RECORDS, 2));
 }
 
 #[test]

@@ -119,7 +119,8 @@ static VERDICTS: [(usize, usize, u8, u8, u8, Verdict); 118] = [
     (64, 64, 0, 255, 1, TORN_1),
     (64, 64, 1, 16, 1, NOT_1),
     (65, 65, 0, 255, 1, TORN_1),
-    // Record 2, DESTROY, refused by Id: its pass, and its tag. Unbind and AccessDetach have the same fields and refusal.
+    // Record 2, DESTROY, refused by Id: its pass, and its tag. Unbind and AccessDetach have the same fields and
+    // refusal.
     (66, 67, 0, 255, 1, TORN_2),
     (68, 68, 0, 255, 1, TORN_2),
     (68, 68, 6, 7, 1, RUN),

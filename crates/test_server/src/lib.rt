@@ -1,5 +1,5 @@
-//! Tests of the server through public calls: of the core, what no script asks (`questions`, by `steps`), of sessions over
-//! readers and writers that fail (`session`, `lines`), and of journals (`journal`).
+//! Tests of the server through public calls: of the core, what no script asks (`questions`, by `steps`), of sessions
+//! over readers and writers that fail (`session`, `lines`), and of journals (`journal`).
 #![tactic(auto)]
 
 #[cfg(test)]
