@@ -12,6 +12,7 @@ mod spelled;
 mod steps;
 mod version;
 
+pub use commands::is_kept;
 pub use head::read_head;
 pub use reading::read_record;
 pub use replies::{fault_of, typed_reply};

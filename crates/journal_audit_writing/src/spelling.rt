@@ -1,28 +1,20 @@
 //! Which records have a spelling.
 
-ghost use Rattle.std.specs.Prelude.{◌≡◌, ◌==◌, ◌&&◌, ◌||◌, nat_lt};
+ghost use Rattle.std.specs.Prelude.{◌≡◌};
 ghost use Rattle.std.specs.Bool.{MatchBool};
-ghost use Rattle.iofd_words.specs.Rights.{has_flag};
 ghost use Rattle.journal_audit_writing.specs.Texts.{IsOwnReply, IsSpelt, is_kept_event};
 
-use iofd_words::{Config, Event, Iova, MapFlags, Record, Reply};
-use journal_audit_bytes::fault_of;
+use iofd_words::{Config, Event, Record, Reply};
+use journal_audit_bytes::{fault_of, is_kept};
 use std::alloc::Allocator;
-
-// Whether a MAP or a COPY has no unknown flag, and no address that its flags don't fix but 0.
-fn is_kept(flags: MapFlags, iova: Iova) -> bool
-    ensures { result ≡ (nat_lt flags.0 8 && (has_flag flags.0 1 || iova.0 == 0)) }
-{
-    flags.0 < 8 && (flags.is_fixed() || iova.0 == 0)
-}
 
 #[tactic(auto, unfolding(journal_audit_bytes::specs::Format::is_kept))]
 fn is_kept_event<A: Allocator>(event: &Event<A>) -> bool
     ensures { result ≡ is_kept_event event.now }
 {
     match event {
-        Event::Map(_, map) => is_kept(map.flags, map.iova),
-        Event::Copy(_, copy) => is_kept(copy.flags, copy.dst_iova),
+        Event::Map(_, map) => is_kept(map.flags.0, map.iova.0),
+        Event::Copy(_, copy) => is_kept(copy.flags.0, copy.dst_iova.0),
         Event::AllowIovas(_, _, ranges) => ranges.as_slice().len() < 0x1_0000_0000,
         _ => true,
     }
