@@ -2,8 +2,16 @@
 #![tactic(auto)]
 
 #[cfg(test)]
+mod crowd;
+#[cfg(test)]
+mod lanes;
+#[cfg(test)]
 mod numbers;
 #[cfg(test)]
 mod one_thread;
 #[cfg(test)]
+mod plain;
+#[cfg(test)]
 mod threads;
+#[cfg(test)]
+mod times;

@@ -4,21 +4,22 @@ ghost use Rattle.std.specs.Prelude.{◌<◌, ◌≤◌, length};
 ghost use Rattle.lane_lock.specs.Passes.{Owns, OwnsAll};
 
 use crate::crowd::Crowd;
-use crate::kept::Entries;
-use lane_lock::{Kept, LaneLock, Pass};
+use crate::numbers::Numbers;
+use crate::one_thread::new_lock;
+use lane_lock::{LaneLock, Pass};
 use std::alloc::Global;
 use std::sync::Wait;
 use std::sync::atomic::{AtomicU64, Ordering};
 use std::thread::{Threads, for_each_chunk_mut};
 
-// One thread reads so many times. The answer is how many of these reads found one entry.
-fn one<R: Wait>(rt: &R, lock: &LaneLock<Entries>, pass: &mut Pass<Entries>, count: u64) -> u64
+// One thread reads so many times. The answer is how many of these reads found no number.
+fn one<R: Wait>(rt: &R, lock: &LaneLock<Numbers>, pass: &mut Pass<Numbers>, count: u64) -> u64
     requires { Owns lock.now pass.old }
 {
     let mut found = 0u64;
     for _ in 0..count {
         let guard = lock.read(rt, pass);
-        if guard.get().len() == 1 {
+        if guard.get().entries.is_empty() {
             found = found.wrapping_add(1);
         }
         guard.end();
@@ -30,8 +31,8 @@ fn one<R: Wait>(rt: &R, lock: &LaneLock<Entries>, pass: &mut Pass<Entries>, coun
 // its pass: in the middle of 8 it shares no line of cache with what another thread uses.
 fn crowd_reads<R: Threads + Wait + Sync>(
     rt: &R,
-    lock: &LaneLock<Entries>,
-    passes: &mut [Pass<Entries>],
+    lock: &LaneLock<Numbers>,
+    passes: &mut [Pass<Numbers>],
     apart: usize,
     count: u64,
 ) -> u64
@@ -43,7 +44,7 @@ fn crowd_reads<R: Threads + Wait + Sync>(
         rt,
         passes,
         apart,
-        &|_, part: &mut [Pass<Entries>]|
+        &|_, part: &mut [Pass<Numbers>]|
             requires { (0 < length part.now) × OwnsAll lock.now part.now }
         {
             let middle = part.len() / 2;
@@ -65,7 +66,6 @@ pub fn reads<R: Threads + Wait + Sync>(
 ) -> Option<u64>
     requires { (1 ≤ lanes) × (lanes ≤ 64) × (1 ≤ apart) × (apart ≤ 256) }
 {
-    let entries = Entries::of_one(alloc).ok()?;
-    let (lock, mut passes) = LaneLock::new(alloc, entries, lanes, crowd.passes(apart)).ok()?;
+    let (lock, mut passes) = new_lock(alloc, 0, lanes, crowd.passes(apart))?;
     Some(crowd_reads(rt, &lock, &mut passes, usize::from(apart), count))
 }

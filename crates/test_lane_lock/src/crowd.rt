@@ -10,11 +10,12 @@ pub enum Crowd {
 }
 
 impl Crowd {
-    pub fn name(self) -> &'static str {
+    // How many they are.
+    pub fn threads(self) -> u8 {
         match self {
-            Crowd::One => "1 thread",
-            Crowd::Two => "2 threads",
-            Crowd::Four => "4 threads",
+            Crowd::One => 1,
+            Crowd::Two => 2,
+            Crowd::Four => 4,
         }
     }
 

@@ -1,18 +1,17 @@
 //! Reads under std's lock.
 
 use crate::crowd::Crowd;
-use crate::kept::Entries;
-use lane_lock::Kept;
+use crate::numbers::Numbers;
 use std::alloc::Global;
 use std::sync::{RwLock, Wait};
 use std::thread::{Threads, join};
 
-// One thread reads so many times. The answer is how many of these reads found one entry.
-fn one<R: Wait>(rt: &R, lock: &RwLock<Entries>, count: u64) -> u64 {
+// One thread reads so many times. The answer is how many of these reads found no number.
+fn one<R: Wait>(rt: &R, lock: &RwLock<Numbers>, count: u64) -> u64 {
     let mut found = 0u64;
     for _ in 0..count {
         let guard = lock.read(rt);
-        if guard.len() == 1 {
+        if guard.entries.is_empty() {
             found = found.wrapping_add(1);
         }
         drop(guard);
@@ -21,7 +20,7 @@ fn one<R: Wait>(rt: &R, lock: &RwLock<Entries>, count: u64) -> u64 {
 }
 
 // Two threads at once.
-fn two<R: Threads + Wait + Sync>(rt: &R, lock: &RwLock<Entries>, count: u64) -> u64 {
+fn two<R: Threads + Wait + Sync>(rt: &R, lock: &RwLock<Numbers>, count: u64) -> u64 {
     let (first, second) = join(rt, || one(rt, lock, count), || one(rt, lock, count));
     first.wrapping_add(second)
 }
@@ -33,7 +32,7 @@ pub fn reads<R: Threads + Wait + Sync>(
     crowd: Crowd,
     count: u64,
 ) -> Option<u64> {
-    let lock = RwLock::new(Entries::of_one(alloc).ok()?);
+    let lock = RwLock::new(Numbers::new(alloc, 0).ok()?);
     let lock = &lock;
     Some(match crowd {
         Crowd::One => one(rt, lock, count),
