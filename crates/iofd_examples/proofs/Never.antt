@@ -1,5 +1,5 @@
 -- What is no answer.
-use Rattle.std.proofs.Common.{◌≡◌, ◌<◌, ℕ, true, false, Some, None, Option, ap, arith}
+use Rattle.std.proofs.Common.{◌≡◌, ◌<◌, ℕ, true, false, Some, None, Option, List, [], ◌∷◌, ap, arith}
 use Rattle.iofd_words.specs.declared.numbers.Iova.{Iova}
 use Rattle.iofd_words.specs.declared.numbers.ObjId.{ObjId}
 use Rattle.iofd_words.specs.declared.refusal.Cause.{Cause}
@@ -20,6 +20,17 @@ lower_iova a b less is = lower _ _ less (ap (λ i. i.0) is)
 
 pub higher_id : (a b : ObjId) → b.0 < a.0 → a ≡ b → ⊥
 higher_id a b less is = higher _ _ less (ap (λ i. i.0) is)
+
+abbrev first : List ℕ → ℕ
+first [] = 0
+first (word ∷ words) = word
+
+-- words of which the first differs
+pub lower_word : (a b : ℕ) (rest others : List ℕ) → a < b → ◌≡◌ {A = List ℕ} (a ∷ rest) (b ∷ others) → ⊥
+lower_word a b rest others less is = let same : a ≡ b = ap first is in absurd (omega (arith, less, same))
+
+pub higher_word : (a b : ℕ) (rest others : List ℕ) → b < a → ◌≡◌ {A = List ℕ} (a ∷ rest) (b ∷ others) → ⊥
+higher_word a b rest others less is = let same : a ≡ b = ap first is in absurd (omega (arith, less, same))
 
 abbrev cause_in : Reply → Option Cause
 cause_in (reply.Refused refusal) = Some refusal.cause

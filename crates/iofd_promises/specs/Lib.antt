@@ -1,9 +1,10 @@
-pub mod Bytes
-pub mod Reaches
-pub mod Owners
-pub mod Unmaps
 pub mod Bounded
+pub mod Bytes
 pub mod Closing
-pub mod Reserved
 pub mod Holding
 pub mod Mapped
+pub mod Marks
+pub mod Owners
+pub mod Reaches
+pub mod Reserved
+pub mod Unmaps

@@ -4,6 +4,7 @@
 
 mod access;
 mod closed;
+mod dirty;
 mod isolation;
 mod limits;
 mod mapping;
@@ -20,6 +21,12 @@ pub use access::{
 };
 pub use closed::{
     closed_files_have_nothing, closed_files_stay_closed, commands_of_gone_files_are_refused,
+};
+pub use dirty::{
+    a_page_is_marked_only_by_a_write, a_report_clears_just_its_span,
+    a_report_tells_the_marked_pages, a_table_is_tracked_since_it_was_turned_on,
+    a_write_is_never_lost, tracked_tables_are_there, turning_on_clears,
+    what_was_cleared_is_told_once,
 };
 pub use isolation::{
     given_frames_were_nobodys, new_pins_are_their_users_pages,

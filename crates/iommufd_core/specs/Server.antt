@@ -11,7 +11,7 @@ use Rattle.iofd_words.specs.declared.event.Event.TheVariants as event
 use Rattle.event_device_access.specs.FirstMark.{takes_mark}
 use Rattle.event_device_access.specs.Tracked.{tracks_writes_of}
 use Rattle.event_unmap.specs.Lost.{loses_table}
-use Rattle.hwpt_device_attach.specs.Attaching.{takes_its_table}
+use Rattle.hwpt_device.specs.Attaching.{takes_its_table}
 use Rattle.iommufd_core.specs.History.{History, world}
 use Rattle.server_state.specs.Tables.{has_page_table, has_page_tables}
 

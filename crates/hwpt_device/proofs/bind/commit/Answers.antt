@@ -6,7 +6,7 @@ use Rattle.iofd_words.specs.View.{view}
 use Rattle.iofd_words.specs.declared.rows.Object.{Object}
 use Rattle.iofd_words.specs.declared.rows.ObjectKind.TheVariants as kind
 use Rattle.iofd_runs.proofs.NotRefused.{bind_passed}
-use Rattle.hwpt_device.proofs.NeverRefused.{bind_taken}
+use Rattle.hwpt_device.proofs.BindRoomy.{bind_taken}
 use Rattle.server_state.proofs.ObjectsMoved.{fresh_id}
 use Rattle.server_state.specs.Devices.{with_binding}
 use Rattle.hwpt_device.proofs.Bound.{shows_bound}

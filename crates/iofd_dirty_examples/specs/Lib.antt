@@ -1,3 +1,0 @@
-pub mod DirtyRecords
-pub mod DirtyScript
-pub mod Words
