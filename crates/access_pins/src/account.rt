@@ -48,8 +48,8 @@ pub(crate) fn passes_limit<A: Allocator>(
     accounts::passes_limit(state, file, count)
 }
 
-/// How many pages these areas, which meet the span, have in it, pinned or not: a pin of the span pins no more than that.
-/// It looks at no page.
+/// How many pages these areas, which meet the span, have in it, pinned or not: a pin of the span pins no more than
+/// that. It looks at no page.
 fn all_pages<A: Allocator>(areas: Iter<'_, A>, span: Span, memory: &UserMemory<A>) -> u128
     requires met { list_all (λ area. meets area.span span) areas ≡ true }
     requires lies { list_all (run_lies memory.now) (runs.runs_in span areas) ≡ true }

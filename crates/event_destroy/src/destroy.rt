@@ -58,8 +58,8 @@ fn is_device(kind: ObjectKind) -> bool
 
 /// What it does where nothing refuses it. An address space goes with its allowed ranges, and with its areas and their
 /// memory objects, of which no page is pinned. A page table gives the frames of its tables back, which are listed by
-/// rising number, and with the last one over an address space the pins of its areas' pages go; it isn't tracked any more.
-/// An access object that isn't attached goes, and nothing with it.
+/// rising number, and with the last one over an address space the pins of its areas' pages go; it isn't tracked any
+/// more. An access object that isn't attached goes, and nothing with it.
 ///
 /// The only error is want of memory for that list, where it is a page table. It leaves the world as it was.
 pub fn commit<A: Allocator>(

@@ -26,8 +26,8 @@ use std::alloc::Allocator;
 // How many pages a report tells at most.
 const REPORT_PAGES: u64 = 256;
 
-/// Why a report is refused, by the first row of the definitions that holds, whether it clears or not. None where nothing
-/// refuses it.
+/// Why a report is refused, by the first row of the definitions that holds, whether it clears or not. None where
+/// nothing refuses it.
 ///
 /// Refused by 11 (ENOENT, `Cause::Id`) where the file isn't open or has no hardware page table of this id, then by 19
 /// (EOVERFLOW, `Cause::Sum`) where the span ends above 2^64, then by 20 (EINVAL, `Cause::Align`) where it has no whole

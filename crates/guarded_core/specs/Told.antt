@@ -32,8 +32,8 @@ pub record TellsRanges {A : Type 0} (Z : Type 0) (h : History A) (file : FileNo)
   pub ranges : IfOk told (λ set. AreUsableRanges (view (world h)) file ioas set.spans)
   pub few : IfOk told (λ set. length set.spans < 2 ^ 32)
 
--- these bytes are the journal, of version 2, of the history; or this record is the first that has no spelling, or memory
--- was wanting
+-- these bytes are the journal, of version 2, of the history; or this record is the first that has no spelling, or
+-- memory was wanting
 pub record TellsJournal {A Z : Type 0} (h : History A) (answer : Result (Vec ℕ Z) JournalError) : Type 0 where
   pub bytes : IfOk answer (λ bytes. IsJournal Two h.settings h.records bytes.items)
   pub unspelt : OnUnspeltAt answer (IsFirstUnspelt Two h.settings h.records)

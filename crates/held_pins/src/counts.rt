@@ -64,7 +64,8 @@ impl<K: Ord + Hash + Copy, A: Allocator> Counts<K, A> {
         self.add_first(key)
     }
 
-    /// Counts the key once more where it is counted already. Whether it was; if not it does nothing. It takes no memory.
+    /// Counts the key once more where it is counted already. Whether it was; if not it does nothing. It takes no
+    /// memory.
     pub(crate) fn add_again(&mut self, key: K) -> bool
         requires { count_in K.cmp self.old key < 65535 }
         ensures test { result ≡ nat_lt 0 (count_in K.cmp self.old key) }

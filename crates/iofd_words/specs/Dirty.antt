@@ -1,5 +1,5 @@
--- Dirty tracking, by this project's own commands DIRTY_ENABLE and DIRTY_REPORT: which pages devices have written through a
--- page table since it is tracked, or since they were last cleared by a report.
+-- Dirty tracking, by this project's own commands DIRTY_ENABLE and DIRTY_REPORT: which pages devices have written
+-- through a page table since it is tracked, or since they were last cleared by a report.
 use Rattle.std.specs.Prelude.{ℕ, Bool, true, false, ◌==◌, ◌&&◌, not, Option, Some, None, List, [], ◌∷◌, map, filter}
 use Rattle.std.specs.Prelude.{if◌then◌else◌}
 use Rattle.std.specs.List.{list_any}

@@ -1,5 +1,5 @@
--- What a walk of a device's page table finds (VT-d, "Second-Stage Translation"): the page is mapped by a live area of the
--- address space by which the device translates, at the frame of the page's pin and with the area's rights.
+-- What a walk of a device's page table finds (VT-d, "Second-Stage Translation"): the page is mapped by a live area of
+-- the address space by which the device translates, at the frame of the page's pin and with the area's rights.
 use Rattle.std.specs.Prelude.{ℕ, Option, Some, None}
 use Rattle.std.specs.Option.{option_map}
 use Rattle.iofd_words.specs.Areas.{area_at}

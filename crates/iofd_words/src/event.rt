@@ -59,8 +59,8 @@ pub struct PinRequest {
     pub write: bool,
 }
 
-/// Which pages of an address space are asked for by DIRTY_REPORT (this project's own command): those of a span that were
-/// written through the page table of this id. The length and the address are in bytes.
+/// Which pages of an address space are asked for by DIRTY_REPORT (this project's own command): those of a span that
+/// were written through the page table of this id. The length and the address are in bytes.
 #[derive(Clone, Copy)]
 pub struct DirtyRequest {
     pub hwpt: ObjId,

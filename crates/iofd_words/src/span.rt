@@ -71,7 +71,8 @@ impl Span {
         self.last
     }
 
-    /// What holds of every span: it begins no later than it ends, and at numbers of 64 bits. The call does nothing else.
+    /// What holds of every span: it begins no later than it ends, and at numbers of 64 bits. The call does nothing
+    /// else.
     pub fn facts(self)
         ensures ordered { self.first ≤ self.last }
         ensures end { self.last < 2 ^ 64 }

@@ -231,8 +231,8 @@ fn put_journal(room: &mut [u8], told: &Option<Result<Vec<u8>, TryError<JournalEr
 }
 
 /// The journal, of version 2, of what the server was opened with and of all its records (docs/JOURNAL.md). It stands at
-/// the front of the room, as far as that has place, and `written` says how many bytes it is. EINVAL where a record has no
-/// spelling.
+/// the front of the room, as far as that has place, and `written` says how many bytes it is. EINVAL where a record has
+/// no spelling.
 #[unsafe(no_mangle)]
 pub extern "C" fn defnulk_raw_journal(
     alloc: Global,

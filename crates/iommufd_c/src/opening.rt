@@ -32,8 +32,8 @@ pub extern "C" fn defnulk_raw_open(
         (settings_of_rows pool users.now files.now devices.now reserved.now passes) lanes cache handle.old.client
         result handle.new.client }
 {
-    // Both are asked before anything is copied: whoever opens a handle twice, or asks for what there is no server of, is
-    // never told that there is no memory.
+    // Both are asked before anything is copied: whoever opens a handle twice, or asks for what there is no server of,
+    // is never told that there is no memory.
     if handle.is_open(alloc) {
         return EBUSY;
     }

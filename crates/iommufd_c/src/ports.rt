@@ -102,9 +102,9 @@ fn kind_of(write: u8) -> AccessKind
     }
 }
 
-/// Tells what the page at the address is translated to for the device, where it has the right to read, or to write where
-/// `write` isn't 0. EFAULT where it is translated to nothing with that right. With each error the translation stays as it
-/// was.
+/// Tells what the page at the address is translated to for the device, where it has the right to read, or to write
+/// where `write` isn't 0. EFAULT where it is translated to nothing with that right. With each error the translation
+/// stays as it was.
 ///
 /// It is good until the port is next flushed, attached or detached.
 #[unsafe(no_mangle)]

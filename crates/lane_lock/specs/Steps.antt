@@ -20,17 +20,17 @@ SameSeat old new = (new.table_id ≡ old.table_id) × (new.id ≡ old.id)
 
 module _ {K E Z : Type 0} where
   -- A lane was taken, to read or to write, whose slot has x. With a share its history is seen, which begins with the
-  -- opening one and is legal for the pass; if a lane pins what it has seen, it has seen it all before. Lane 0 always has
-  -- one.
+  -- opening one and is legal for the pass; if a lane pins what it has seen, it has seen it all before. Lane 0 always
+  -- has one.
   abbrev pub Takes : Bool → (K → List E) → (E → ℕ) → View E → ℕ → ℕ → Option (Arc K Z) → View E → Type 0
   Takes to_read hist by v k w None v' = (v' ≡ found_empty to_read (holding to_read v k w) k) × (k ≢ 0)
   Takes to_read hist by v k w (Some a) v' =
       (v' ≡ seeing to_read v k w (hist (arc_value a))) × StartsWith (hist (arc_value a)) v.seen × IsLegal by v'
       × (v.pin ≢ 0 → hist (arc_value a) ≡ v.seen) × StartsWith (hist (arc_value a)) v.opening
 
-  -- Taking lane k by the word w, to read or to write. At 0 it was at home, and the pass has it and what its slot had; at
-  -- another word it was held, and the pass notes that. The word names a pass of the lock, and this pass only if it held
-  -- the lane.
+  -- Taking lane k by the word w, to read or to write. At 0 it was at home, and the pass has it and what its slot had;
+  -- at another word it was held, and the pass notes that. The word names a pass of the lock, and this pass only if it
+  -- held the lane.
   abbrev pub took : Bool → (K → List E) → (E → ℕ) → ℕ → ℕ → Mine K E Z → ℕ → Mine K E Z → Type 0
   took to_read hist by k w m r m' =
       (r ≡ 0 → (x : Option (Arc K Z)) × (m'.1 ≡ (place k, x) ∷ m.1) × Takes to_read hist by m.0 k w x m'.0
@@ -71,8 +71,8 @@ module _ {K E Z : Type 0} where
   Writes hist by m = (a : Arc K Z) × (x : E) × (m.1 ≡ (0, Some a) ∷ rest m.1)
       × (hist (arc_value a) ≡ m.0.seen ++ x ∷ []) × (by x ≡ m.0.number)
 
-  -- Lane 0, of so many, was put back with one more record. Lane 1, if there is one, now pins what the pass has seen, and
-  -- else no lane does.
+  -- Lane 0, of so many, was put back with one more record. Lane 1, if there is one, now pins what the pass has seen,
+  -- and else no lane does.
   abbrev pub committed : (K → List E) → ℕ → Mine K E Z → Mine K E Z → Type 0
   committed hist lanes m m' =
       (m' ≡ (written m.0 0 (top_history hist m.1 m.0.seen) m'.0.pin, rest m.1))

@@ -1,5 +1,5 @@
--- What a port keeps of its device's pages: what is left of it once turns are compared, what is kept with a right, and how
--- an access leaves it.
+-- What a port keeps of its device's pages: what is left of it once turns are compared, what is kept with a right, and
+-- how an access leaves it.
 use Rattle.std.specs.Prelude.{◌≡◌, ◌⊎◌, ℕ, ◌-◌, ◌==◌, if◌then◌else◌, nat_eq, Option, Some, None, List, [], ◌∷◌, take}
 use Rattle.std.specs.Map.{lookup, remove_entry}
 use Rattle.iofd_words.specs.Rights.{has_right}

@@ -18,9 +18,9 @@ const TWO_LINES: usize = 128;
 pub struct PortCache<A: Allocator + Copy = Global> {
     pub pages: LruCache<u64, Translation, DefaultHasher, A>,
     pub turns: u64,
-    // Memory that nobody uses. It was taken right after the pages' own, so that what is taken next, the pages of another
-    // port, shares no line of cache with it: each hit writes the pages' order, and ports are used by threads of their
-    // own.
+    // Memory that nobody uses. It was taken right after the pages' own, so that what is taken next, the pages of
+    // another port, shares no line of cache with it: each hit writes the pages' order, and ports are used by threads of
+    // their own.
     apart: Vec<u8, A>,
 }
 

@@ -1,5 +1,5 @@
--- What the calls of callers and of devices' ports do: what those of the server do, by this pass or port. None waits: one
--- that is carried out met no lane that was held.
+-- What the calls of callers and of devices' ports do: what those of the server do, by this pass or port. None waits:
+-- one that is carried out met no lane that was held.
 use Rattle.std.specs.Prelude.{◌≡◌, ℕ, List, Option, None, Result, Vec, IfOk, IfErr}
 use Rattle.std.specs.Arc.{arc_value}
 use Rattle.std.specs.declared.alloc.Global.{Global}

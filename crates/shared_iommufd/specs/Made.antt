@@ -26,8 +26,8 @@ place_of (Err error) = None
 module _ {A : Type 0} {g : CoreGhosts A} where
   -- The pass made one record: of this act, with its own number, and with the reply and at the place of the stamp. It
   -- stands behind all records that there were, which are all that the pass had seen and maybe more, and of which those
-  -- of the pass are just those that it had made. It is the last record that the pass has seen now, and the pass holds no
-  -- lane; meanwhile no take of it to read had a share.
+  -- of the pass are just those that it had made. It is the last record that the pass has seen now, and the pass holds
+  -- no lane; meanwhile no take of it to read had a share.
   pub record Makes (settings : Settings) (p : CorePass A g) (act : Act A) (stamp : Stamp) (q : CorePass A g)
       : Type 0 where
     pub before : List (Record A)

@@ -45,8 +45,8 @@ module _ {A : Type 0} {g : CoreGhosts A} where
       × IsPiece address p piece
       × Follow IsPiece (address + length piece.bytes) (left - length piece.bytes) piece.after pieces
 
-  -- so many of the bytes have passed, in these pieces; the port keeps what it kept then, and its pass has made no record
-  -- since, and has seen no less
+  -- so many of the bytes have passed, in these pieces; the port keeps what it kept then, and its pass has made no
+  -- record since, and has seen no less
   pub record HavePassed (IsPiece : ℕ → Standing A g → Piece A g → Type 0) (address left : ℕ) (p : Standing A g)
       (pieces : List (Piece A g)) (done : ℕ) (q : Standing A g) : Type 0 where
     pub follow : Follow IsPiece address left p pieces

@@ -41,8 +41,8 @@ fn room_for_reply<A: Allocator>(alloc: A) -> Result<Vec<u8, A>, NoMemory>
     Vec::from_slice(alloc, &[0; ROOM]).map_err(|_| NoMemory)
 }
 
-// Writes what is written back for an event that has this reply to the front of the buffer, and answers how many bytes that
-// is.
+// Writes what is written back for an event that has this reply to the front of the buffer, and answers how many bytes
+// that is.
 fn write_back<A: Allocator>(event: Event<A>, reply: &Reply, buffer: &mut [u8; 64]) -> usize
     ensures count { result ≡ length (event_written_back event reply.now) }
     ensures at_most { result ≤ 64 }
@@ -89,7 +89,8 @@ fn reply_told(told: &Answer) -> Reply
     }
 }
 
-// Writes what is written back for a report that is told so to the front of the buffer, and answers how many bytes that is.
+// Writes what is written back for a report that is told so to the front of the buffer, and answers how many bytes that
+// is.
 #[tactic(auto, unfolding(crate::specs::Ioctls::report_written_back))]
 fn write_report(request: DirtyRequest, reply: &Reply, buffer: &mut [u8; 64]) -> usize
     ensures count { result ≡ length (report_written_back request reply.now) }
@@ -159,11 +160,11 @@ impl<A: Allocator + Copy> Server<A> {
 
     /// Carries out a call of ioctl that the file makes with this number and these bytes (uapi header `iommufd.h`), once
     /// its lanes can be had. A command that changes something makes exactly one record, as `call` does;
-    /// IOAS_IOVA_RANGES and a DIRTY_REPORT that doesn't clear are answered as of all records that the pass has then seen;
-    /// bytes that spell no command are refused, take no lane and make no record.
+    /// IOAS_IOVA_RANGES and a DIRTY_REPORT that doesn't clear are answered as of all records that the pass has then
+    /// seen; bytes that spell no command are refused, take no lane and make no record.
     ///
-    /// The memory of an event's answer is taken before the event is applied: with NoMemory no record was made. Bytes that
-    /// spell no command are never answered so.
+    /// The memory of an event's answer is taken before the event is applied: with NoMemory no record was made. Bytes
+    /// that spell no command are never answered so.
     pub fn ioctl<R: Wait>(
         &self,
         rt: &R,

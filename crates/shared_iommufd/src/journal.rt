@@ -12,9 +12,9 @@ impl<A: Allocator + Copy> Server<A> {
     ghost use Rattle.shared_iommufd.specs.Seen.{IsJournalOf, IsTriedJournalOf};
     ghost use Rattle.shared_iommufd.specs.Servers.{IsPassOf, settings_of};
 
-    /// The journal, of version 2, of what the server was opened with and of all records that the pass has then seen, and
-    /// no others, as bytes (docs/JOURNAL.md); once its lane can be had. It makes no record. While it is written no other
-    /// call can change anything.
+    /// The journal, of version 2, of what the server was opened with and of all records that the pass has then seen,
+    /// and no others, as bytes (docs/JOURNAL.md); once its lane can be had. It makes no record. While it is written no
+    /// other call can change anything.
     ///
     /// The error is the index of the first record that has no spelling, or that memory of the core's allocator was
     /// refused.

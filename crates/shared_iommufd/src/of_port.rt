@@ -18,7 +18,8 @@ pub fn is_event_of_port<A: Allocator>(event: &Event<A>) -> bool
     }
 }
 
-/// Whether the question is one that a port alone asks: its device's read, by a walk or at a frame that was kept, or a walk.
+/// Whether the question is one that a port alone asks: its device's read, by a walk or at a frame that was kept, or a
+/// walk.
 pub fn is_query_of_port(query: &Query) -> bool
     ensures { result ≡ query_of_port query.now }
 {

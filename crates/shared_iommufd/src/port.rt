@@ -10,8 +10,8 @@ use lane_lock::Kept;
 use port_cache::PortCache;
 use std::alloc::{Allocator, Global};
 
-/// By what a device reads and writes, and is attached, detached and flushed: a pass of its own, and a cache of the pages
-/// that it was let through to.
+/// By what a device reads and writes, and is attached, detached and flushed: a pass of its own, and a cache of the
+/// pages that it was let through to.
 ///
 /// The cache is empty, or its pages were translated so in a history that the pass has seen, in which the device had had
 /// as many turns (attachments, detachments, flushes) as the port remembers. Under each guard these are compared first:

@@ -19,8 +19,8 @@ impl<A: Allocator + Copy> Port<A> {
     /// What the page at the address is translated to for the device, where it has the right; as of all records that the
     /// port's pass has then seen, once its lane can be had. It makes no record, and never wants for memory.
     ///
-    /// A page that the port keeps with the right is told as it is kept, though its area may be leaving; of any other the
-    /// server asks the page table, and the port keeps what it finds. None where that has no such page either.
+    /// A page that the port keeps with the right is told as it is kept, though its area may be leaving; of any other
+    /// the server asks the page table, and the port keeps what it finds. None where that has no such page either.
     ///
     /// What is told is good until the device's next turn, whatever others make (`laws::interleavings` of
     /// `iommufd_core`): an access to the frame with that right is one that the policy allows the device. So it is to be

@@ -28,8 +28,9 @@ impl<A: Allocator + Copy> Port<A> {
     /// at 64 bytes, each by one record, once all lanes can be had; the first that doesn't pass is the last. Without
     /// bytes it makes no record and takes no lane.
     ///
-    /// A page that the port keeps, with the right to write, is written at the frame that it keeps, though its area may be
-    /// leaving; of any other the server asks the page table, and the port keeps what it finds, if it has memory for that.
+    /// A page that the port keeps, with the right to write, is written at the frame that it keeps, though its area may
+    /// be leaving; of any other the server asks the page table, and the port keeps what it finds, if it has memory for
+    /// that.
     ///
     /// The error is how many bytes were written before the first piece that wasn't, and why: it was refused, as Id (11,
     /// ENOENT) where the device isn't bound and InterruptRange (27, EINVAL), or denied, which its record says; or

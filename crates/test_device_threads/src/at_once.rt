@@ -1,5 +1,5 @@
-//! Eight devices with many jobs each, while a ninth thread maps, unmaps and flushes: each result is one that the journal
-//! explains, and the journal audits as a run.
+//! Eight devices with many jobs each, while a ninth thread maps, unmaps and flushes: each result is one that the
+//! journal explains, and the journal audits as a run.
 
 ghost use Rattle.std.specs.Prelude.{◌≡◌, false, IfOk, IfSome, None};
 ghost use Rattle.guarded_core.specs.OfPort.{event_of_port};

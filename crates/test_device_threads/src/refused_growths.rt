@@ -1,6 +1,6 @@
-//! Runs of one worker with one job, to which one growth may be refused (tests/growth has the allocator): such a run starts
-//! nothing, or its job tells want of memory; it makes no record either way, and made again at once comes out as it has
-//! to. With ample memory each does so at once.
+//! Runs of one worker with one job, to which one growth may be refused (tests/growth has the allocator): such a run
+//! starts nothing, or its job tells want of memory; it makes no record either way, and made again at once comes out as
+//! it has to. With ample memory each does so at once.
 
 ghost use Rattle.std.specs.Prelude.{IfSome};
 ghost use Rattle.shared_iommufd.specs.Ports.{IsPortOf};
