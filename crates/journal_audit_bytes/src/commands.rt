@@ -70,8 +70,8 @@ pub fn allow_iovas_at<A: Allocator>(alloc: A, bytes: &[u8]) -> Result<(Event<A>,
     Ok((Event::AllowIovas(FileNo(file), ObjId(ioas), ranges), rest))
 }
 
-/// Whether a MAP or a COPY with these flags and this address has a spelling: it has no unknown flag, and no address that
-/// its flags don't fix but 0.
+/// Whether a MAP or a COPY with these flags and this address has a spelling: it has no unknown flag, and no address
+/// that its flags don't fix but 0.
 pub fn is_kept(flags: u32, iova: u64) -> bool
     ensures { result ≡ (nat_lt flags 8 && (has_flag flags 1 || iova == 0)) }
 {

@@ -1,4 +1,4 @@
-//! Worked bytes of each structure, read and written. Refusals of those of the uapi header are scripts (`tests/long`).
+//! Worked bytes of each structure, read and written. Refusals of structures are scripts (`tests/long`, `tests/rows`).
 
 use ioctl_codec::{
     Command, DecodeError, RangesRequest, decode, encode, encode_ranges, encode_reply,

@@ -1,5 +1,5 @@
-//! Tests of what reads input, through public calls: `ioctl_codec` (`codec`) and `iommufd_script` (`script`). What lines
-//! and structures are answered stands in `tests`, whose scripts the program carries out.
+//! Tests of what reads input, through public calls: `ioctl_codec` (`codec`) and `iommufd_script` (`script`). How
+//! lines and structures are answered is shown by the scripts of `tests`.
 #![tactic(auto)]
 
 #[cfg(test)]
