@@ -1,11 +1,12 @@
 #!/usr/bin/env python3
-"""Is `rt ci`, with each crate's stamp worked out once, two crates checked by several processors, and the static library
-built; where the kit's rt is made otherwise, just `rt ci`.
+"""Is `rt ci`, with each crate's stamp worked out once, two crates checked by several processors, edits tried at the
+functions that they name, and the static library built; where the kit's rt is made otherwise, just `rt ci`.
 
 To be run at the top of the repository.
 """
 import contextlib
 import os
+import re
 import signal
 import subprocess
 import sys
@@ -37,6 +38,86 @@ def checks_some_by_several_lanes(rt):
         return by_one(crate, flags, tests)
 
     rt.Crate.ci = ci
+
+
+def functions_of(edit):
+    """The functions that a must-fail edit names in lines `# only: PATH`, whose contracts refuse it."""
+    with open(edit, encoding="utf-8") as lines:
+        return [line.removeprefix("# only:").strip() for line in lines if line.startswith("# only:")]
+
+
+def tries_edits_at_their_functions(rt):
+    """Has each edit that names functions tried by a check of these alone.
+
+    They are refused there for just what refuses them in a check of the whole crate, which proves all other functions
+    beside. An edit that isn't refused so is tried as rt tries one that names none: that is the verdict then.
+    """
+    by_whole, check = rt.must_fail, rt.checked
+
+    def must_fail(crate, edit, flags, kept=None):
+        only = [word for path in functions_of(edit) for word in ("--only", path)]
+        if only:
+            tried = by_whole(crate, edit, [*flags, *only], kept)
+            if tried[0] == rt.REFUSED:
+                return tried
+        return by_whole(crate, edit, flags, kept)
+
+    def checked(crate, texts, flags, kept):
+        ran = check(crate, texts, flags, kept)
+        # A check of some functions gives no verdict of the crate. That one of them isn't proved is all that is asked.
+        last = ran.stdout.rstrip("\n").rpartition("\n")[2]
+        count = re.fullmatch(r"only=(\d+) proved=(\d+)", last)
+        if ran.returncode == 1 and count and int(count[2]) < int(count[1]):
+            ran.stdout += "logic=not-proved\n"
+        return ran
+
+    rt.must_fail, rt.checked = must_fail, checked
+
+
+class Renumbered:
+    """What the tasks of a run gave, for an edit that is tried as its crate's only one."""
+
+    def __init__(self, given, number):
+        self.given, self.number = given, number
+
+    def place(self, key):
+        return (*key[:2], self.number) if key[1:] == ("edits", 0) else key
+
+    def __getitem__(self, key):
+        return self.given[self.place(key)]
+
+    def get(self, key, default=None):
+        return self.given.get(self.place(key), default)
+
+
+def begins_no_edit_with_its_crate(rt):
+    """Has several edits of one crate, each of which names its functions, tried as a single one is: from nothing.
+
+    Else rt first proves the crate once more, to try each edit over that, and this takes longer than the edits do.
+    """
+    together = rt.add_edits
+
+    def add_edits(tasks, crate, edits, *others, **named):
+        if len(edits) < 2 or not all(map(functions_of, edits)):
+            return together(tasks, crate, edits, *others, **named)
+        alone = []
+        for number, edit in enumerate(edits):
+            own = {}
+            alone.append(together(own, crate, [edit], *others, **named))
+            for key, (*before, work) in own.items():
+                begin = lambda given, jobs, work=work, number=number: work(Renumbered(given, number), jobs)
+                tasks[Renumbered({}, number).place(key)] = (*before, begin)
+
+        def results(given):
+            return [found for number, (come, _) in enumerate(alone) for found in come(Renumbered(given, number))]
+
+        def known():
+            told = [known() for _, known in alone]
+            return {number: found[0] for number, found in enumerate(told) if found}
+
+        return results, known
+
+    rt.add_edits = add_edits
 
 
 def builds_static_libraries(rt):
@@ -81,6 +162,8 @@ def main():
     try:
         rt = kit.command()
         checks_some_by_several_lanes(rt)
+        tries_edits_at_their_functions(rt)
+        begins_no_edit_with_its_crate(rt)
         builds_static_libraries(rt)
     except Exception:
         os.execvp("rt", ["rt", "ci"])
