@@ -1,11 +1,12 @@
 //! AccessRead: an access object reads what it has pinned.
 
-ghost use Rattle.std.specs.Prelude.{◌≡◌, ℕ, List, None};
+ghost use Rattle.std.specs.Prelude.{◌≡◌, ◌<◌, ◌≤◌, ℕ, List, None, length};
 ghost use Rattle.iofd_words.specs.FirstTrue.{first_true};
 ghost use Rattle.iofd_steps.specs.Look.{lawful_answers, query_checks};
 ghost use Rattle.iofd_words.specs.Record.{Record};
 ghost use Rattle.iofd_words.specs.View.{view};
 ghost use Rattle.iofd_words.specs.World.{World};
+ghost use Rattle.iofd_words.specs.declared.query.Answer.TheVariants as answer;
 ghost use Rattle.iofd_words.specs.declared.query.Query.TheVariants as queries;
 ghost use Rattle.server_state.specs.Choice.{IsLooked};
 ghost use Rattle.server_state.specs.Seen.{seen};
@@ -13,7 +14,7 @@ ghost use Rattle.server_state.specs.Shows.{Shows};
 ghost use Rattle.server_state.specs.Step.{IsAsked, IsTidy};
 
 use crate::held_access;
-use iofd_words::{AccessKind, Answer, Burst, Cause, FileNo, Iova, ObjId, PAGE_SIZE, Refusal};
+use iofd_words::{AccessKind, Answer, Burst, Cause, FileNo, Iova, ObjId, PAGE_SIZE};
 use server_state::State;
 use std::alloc::Allocator;
 
@@ -42,8 +43,31 @@ pub fn refusal<A: Allocator>(
     )
 }
 
-/// What the access object is answered where nothing refuses it: the bytes of the frame at which the page is pinned,
-/// from the address's offset on, whatever its user's memory has there now.
+/// What the access object reads where nothing refuses it: the bytes, where they lie, in the frame at which the page is
+/// pinned, from the address's offset on, whatever its user's memory has there now.
+pub fn bytes<A: Allocator>(
+    state: &State<A>,
+    file: FileNo,
+    access: ObjId,
+    iova: Iova,
+    len: u8,
+) -> &[u8]
+    requires { IsAsked (queries.AccessRead file access iova len) state.now }
+    ensures read { (at : ℕ) (w : World) (records : List (Record A)) → IsTidy at w → Shows w state.now
+        → first_true (query_checks (view w) (queries.AccessRead file access iova len)) ≡ None
+        → IsLooked (lawful_answers w records (queries.AccessRead file access iova len)) (answer.Read result.now) }
+    ensures some { 0 < length result.now }
+    ensures few { length result.now ≤ 64 }
+{
+    let Some(frame) = held_access::frame_at(state, file, access, iova.0) else {
+        // Nothing refuses it: so a pin covers the page, which has a frame.
+        unreachable!()
+    };
+    let offset = (iova.0 % PAGE_SIZE) as usize;
+    state.pool.read(frame, offset, usize::from(len))
+}
+
+/// What the access object is answered where nothing refuses it: those bytes, copied.
 pub fn read<A: Allocator>(
     state: &State<A>,
     file: FileNo,
@@ -56,16 +80,5 @@ pub fn read<A: Allocator>(
         → first_true (query_checks (view w) (queries.AccessRead file access iova len)) ≡ None
         → IsLooked (lawful_answers w records (queries.AccessRead file access iova len)) result }
 {
-    // Nothing refuses it: so a pin covers the page, which has a frame, and the bytes are in it.
-    let absent = Answer::Refused(Refusal {
-        cause: Cause::Absent,
-    });
-    let Some(frame) = held_access::frame_at(state, file, access, iova.0) else {
-        return absent;
-    };
-    let offset = (iova.0 % PAGE_SIZE) as usize;
-    match Burst::new(state.pool.read(frame, offset, usize::from(len))) {
-        Some(bytes) => Answer::Read(bytes),
-        None => absent,
-    }
+    Answer::Read(Burst::new(bytes(state, file, access, iova, len)).unwrap())
 }

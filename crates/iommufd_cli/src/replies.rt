@@ -13,6 +13,7 @@ use crate::line::Line;
 use crate::names::{name_of_cause, name_of_kind};
 use ioctl_codec::{Command, RangesRequest, encode_ranges, encode_reply_to};
 use iofd_words::{Answer, Cause, DirtyRequest, Errno, Fault, NoMemory, Refusal, Reply, Span};
+use iommufd_core::AnswerInPlace;
 use std::alloc::Allocator;
 
 impl Line {
@@ -58,6 +59,16 @@ impl Line {
             Answer::Attached(None) | Answer::Walk(None) | Answer::Dirty(_) => self.tell(b"ok"),
             Answer::Fault(fault) => self.tell_fault(*fault),
             Answer::Refused(refusal) => self.tell_refusal(*refusal),
+        }
+    }
+
+    /// Tells an answer to a look as `tell_answer` does. The bytes of a read are told from the memory that was read.
+    pub fn tell_in_place(&mut self, answer: &AnswerInPlace<'_>)
+        ensures { self.new ≡ line (answer_text answer.now) }
+    {
+        match answer.bytes() {
+            Some(bytes) => self.tell_hex(b"ok ", bytes),
+            None => self.tell_answer(&answer.answer()),
         }
     }
 

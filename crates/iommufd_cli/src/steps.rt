@@ -208,7 +208,7 @@ fn answer_query<A: Allocator>(core: &Core<A>, query: &Query, out: &mut Line) -> 
     requires { IsTrue (may_look core.now.history query.now) }
     ensures { IsAsked core.now query.now (text_of result out.new) core.now }
 {
-    out.tell_answer(&core.look(query));
+    out.tell_in_place(&core.look_in_place(query));
     None
 }
 

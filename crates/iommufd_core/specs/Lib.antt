@@ -1,3 +1,4 @@
+pub mod AnswerInPlace
 pub mod Asked
 pub mod History
 pub mod Kept

@@ -13,6 +13,7 @@ ghost use Rattle.iommufd_core.specs.Refused.{refused_cause};
 ghost use Rattle.iommufd_core.specs.Server.{DoublesRoom, KeepsRoom, MayWant};
 ghost use Rattle.iofd_words.specs.View.{view};
 
+use crate::answer_in_place::AnswerInPlace;
 use crate::{events, look, notices, opening, ranges, turn_counts};
 use event_device_access::access;
 use iofd_words::{
@@ -174,6 +175,15 @@ impl<A: Allocator> Core<A> {
         ensures { IsLooked (answers_to self.now.history.settings self.now.history.records query.now) result }
     {
         look::look(&self.state, &self.turns, query)
+    }
+
+    /// Answers a question as `look` does. The bytes of a read stay in the memory that was read, so that whoever tells
+    /// them copies them once; those at a kept frame are copied.
+    pub fn look_in_place(&self, query: &Query) -> AnswerInPlace<'_>
+        requires { IsTrue (may_look self.now.history query.now) }
+        ensures { IsLooked (answers_to self.now.history.settings self.now.history.records query.now) result }
+    {
+        look::look_in_place(&self.state, &self.turns, query)
     }
 
     /// Whether nothing refuses the device's access to so many bytes, and the policy lets it pass at this frame: the

@@ -1,6 +1,6 @@
 //! Each question, refused or answered. None takes memory.
 
-ghost use Rattle.std.specs.Prelude.{◌≡◌, ℕ, IsTrue, List, None};
+ghost use Rattle.std.specs.Prelude.{◌≡◌, ◌<◌, ◌≤◌, ℕ, IfSome, IsTrue, List, None, length};
 ghost use Rattle.std.specs.Option.{option_map};
 ghost use Rattle.iofd_words.specs.Attachments.{attachment_of};
 ghost use Rattle.iofd_words.specs.FirstTrue.{first_true};
@@ -8,6 +8,7 @@ ghost use Rattle.iofd_steps.specs.Look.{answers_in, lawful_answers, query_checks
 ghost use Rattle.iofd_words.specs.Record.{Record};
 ghost use Rattle.iofd_words.specs.View.{view};
 ghost use Rattle.iofd_words.specs.World.{World};
+ghost use Rattle.iofd_words.specs.declared.query.Answer.TheVariants as answer;
 ghost use Rattle.iofd_words.specs.declared.query.Query.TheVariants as queries;
 ghost use Rattle.iommufd_core.specs.Asked.{may_ask};
 ghost use Rattle.iommufd_core.specs.TurnCounts.{AreTurns};
@@ -16,6 +17,7 @@ ghost use Rattle.server_state.specs.Seen.{seen};
 ghost use Rattle.server_state.specs.Shows.{Shows};
 ghost use Rattle.server_state.specs.Step.{IsAsked, IsKnown, IsTidy};
 
+use crate::answer_in_place::AnswerInPlace;
 use crate::turn_counts;
 use access_pins::read as access_read;
 use event_device_access::{access, device_read, walk};
@@ -36,6 +38,60 @@ pub(crate) fn look<A: Allocator>(state: &State<A>, turns: &[u64], query: &Query)
     match refusal(state, query) {
         Some(cause) => Answer::Refused(Refusal { cause }),
         None => answer(state, turns, query),
+    }
+}
+
+/// The same answer, whose bytes stay where they lie.
+pub(crate) fn look_in_place<'a, A: Allocator>(
+    state: &'a State<A>,
+    turns: &[u64],
+    query: &Query,
+) -> AnswerInPlace<'a>
+    requires known { IsKnown state.now }
+    requires may { IsTrue (may_ask (seen state.now) query.now) }
+    ensures { (at : ℕ) (w : World) (records : List (Record A)) → IsTidy at w → Shows w state.now
+        → AreTurns turns.now state.now.config records
+        → IsLooked (answers_in w records query.now) result }
+{
+    match bytes_of(state, query) {
+        Some(bytes) => AnswerInPlace::read(bytes),
+        None => AnswerInPlace::of(look(state, turns, query)),
+    }
+}
+
+/// The bytes that are answered, where they lie; None where bytes aren't, or where they are those at a kept frame.
+fn bytes_of<'a, A: Allocator>(state: &'a State<A>, query: &Query) -> Option<&'a [u8]>
+    requires { IsKnown state.now }
+    ensures read { IfSome result (λ bytes. (at : ℕ) (w : World) (records : List (Record A)) → IsTidy at w
+        → Shows w state.now → IsLooked (answers_in w records query.now) (answer.Read bytes.now)) }
+    ensures some { IfSome result (λ bytes. 0 < length bytes.now) }
+    ensures few { IfSome result (λ bytes. length bytes.now ≤ 64) }
+{
+    match query {
+        Query::DeviceRead { device, iova, len } => {
+            if access::refusal(state, *device, *iova, usize::from(*len)).is_some() {
+                return None;
+            }
+            device_read::bytes(state, *device, *iova, *len).ok()
+        }
+        Query::UserRead { user, va, len } => {
+            if user_access::refusal(state, *user, *va, usize::from(*len)).is_some() {
+                return None;
+            }
+            Some(user_read::bytes(state, *user, *va, *len))
+        }
+        Query::AccessRead {
+            file,
+            access,
+            iova,
+            len,
+        } => {
+            if access_read::refusal(state, *file, *access, *iova, *len).is_some() {
+                return None;
+            }
+            Some(access_read::bytes(state, *file, *access, *iova, *len))
+        }
+        _ => None,
     }
 }
 

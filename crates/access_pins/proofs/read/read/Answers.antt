@@ -1,69 +1,16 @@
-use Rattle.std.proofs.Common.{◌≡◌, ◌%◌, true, Option, Some, None, is_some, [], ◌∷◌, sym, ◌∙◌, ap, arith}
-use Rattle.access_pins.proofs.HeldFrames.{frame_alike, frame_in_pool, frame_named, has_frame}
-use Rattle.iofd_runs.proofs.AccessesPassed.{held_access_passed}
-use Rattle.iofd_words.specs.Accesses.{accessed_frame}
-use Rattle.iofd_words.specs.Frames.{bytes_at}
-use Rattle.iofd_words.specs.View.{view}
-use Rattle.iofd_words.specs.declared.fault.AccessKind.TheVariants.{Read}
-use Rattle.iofd_words.specs.declared.numbers.FrameNo.{FrameNo}
+use Rattle.std.proofs.Common.{◌≡◌, ℕ, Option, List, sym, subst}
+use Rattle.std.specs.Option.{IfSome}
+use Rattle.iofd_steps.specs.Look.{lawful_answers}
 use Rattle.iofd_words.specs.declared.query.Answer.TheVariants as answer
+use Rattle.iofd_words.specs.declared.query.Query.TheVariants as query
 use Rattle.server_state.specs.Choice.{IsLooked}
-use Rattle.server_state.specs.Seen.{seen}
-use Rattle.user_memory_rows.proofs.FramesFollow.{read_shown}
-use Rattle.user_memory_rows.proofs.UserAccess.{short}
 use Rattle.access_pins.proofs.read.read.Goals as goal
 
-pub read-requires-clause-frame : goal.read-requires-clause-frame
-read-requires-clause-frame g c =
-    let known = c.requires.known in
-    let within = frame_in_pool known.at known.world c.args.state.now known.tidy known.shows c.args.file c.args.access
-    c.args.iova.0 c.in-Some.frame (sym c.in-Some.is ∙ c.frame_at.ensures) in
-    let size = known.shows.frames.size in
-    omega (arith, within, size)
-
-pub read-requires-clause-within : goal.read-requires-clause-within
-read-requires-clause-within g c =
-    let passed = held_access_passed (view c.requires.known.world) c.args.file c.args.access c.args.iova c.args.len Read
-    c.requires.none in
-    let within = (short c.args.iova.0 c.args.len passed.short).within in
-    let from = c.from.ensures in
-    omega (arith, within, from)
-
--- there is a frame
-missing : {X : Type 0} (o : Option FrameNo) → is_some o ≡ true → o ≡ None → X
-missing None some none = cc
-missing (Some frame) some none = absurd cc
-
-pub returns-in_default : goal.returns-in_default
-returns-in_default g c = λ at w records tidy shows none.
-    let s = c.args.state.now in
-    let passed = held_access_passed (view w) c.args.file c.args.access c.args.iova c.args.len Read none in
-    missing (accessed_frame (seen s) c.args.file c.args.access c.args.iova.0)
-    (has_frame at w s tidy shows c.args.file c.args.access c.args.iova.0 passed.held)
-    (sym c.frame_at.ensures ∙ c.in_default.is)
-
-pub returns-in-Some-new : goal.returns-in-Some-new
-returns-in-Some-new g c = λ at w records tidy shows none.
-    let s = c.args.state.now in
-    let frame = c.in-Some.frame in
-    let address = c.args.iova.0 in
-    let len = c.args.len in
-    let is : Some frame ≡ accessed_frame (seen s) c.args.file c.args.access address = sym c.in-Some.is
-    ∙ c.frame_at.ensures in
-    let found : accessed_frame (view w) c.args.file c.args.access address ≡ Some frame =
-    sym (frame_alike at w s tidy shows c.args.file c.args.access address) ∙ sym is in
-    let within = frame_in_pool at w s tidy shows c.args.file c.args.access address frame is in
-    let named = frame_named at w s tidy shows c.args.file c.args.access address frame is in
-    let size = short address len
-    (held_access_passed (view w) c.args.file c.args.access c.args.iova len Read none).short in
-    let bytes = read_shown w.settings.pool w.writes w.table_frames s.memory s.pool frame.0 (address % 4096) len
-    shows.frames within size.within named in
-    let same : c.in-Some-new.bytes ≡ bytes_at w.writes frame.0 (address % 4096) len = c.in-Some-new.ensures.value
-    ∙ (rw c.from.ensures at c.read.ensures.bytes) ∙ bytes in
-    let alone : IsLooked (answer.Read (bytes_at w.writes frame.0 (address % 4096) len) ∷ [])
-    (answer.Read c.in-Some-new.bytes) = record {
-      is_lawful =
-          (0, omega arith, ap answer.Read (sym same));
-      is_fault_else = λ has. cc;
-    } in
-    rw found alone
+pub returns : goal.returns
+returns g c = λ at w records tidy shows none.
+    let is : c.unwrap.result ≡ c.bytes.result.now =
+    subst (λ (o : Option (List ℕ)). IfSome o (λ burst. burst ≡ c.bytes.result.now)) c.unwrap.ensures c.new.ensures.value
+    in
+    subst (λ (b : List ℕ). IsLooked
+    (lawful_answers w records (query.AccessRead c.args.file c.args.access c.args.iova c.args.len)) (answer.Read b))
+    (sym is) (c.bytes.ensures.read at w records tidy shows none)

@@ -1,51 +1,20 @@
-use Rattle.std.proofs.Common.{◌≡◌, None, [], sym, ◌∙◌, ap, subst}
-use Rattle.std.specs.List.{list_any}
-use Rattle.iofd_words.specs.Policy.{Passes, fault_of, is_pass_at, outcomes}
-use Rattle.iofd_words.specs.declared.fault.AccessKind.TheVariants.{Read}
+use Rattle.std.proofs.Common.{◌≡◌, ℕ, Option, List, sym, subst}
+use Rattle.std.specs.Option.{IfSome}
 use Rattle.iofd_steps.specs.Look.{lawful_answers}
 use Rattle.iofd_words.specs.declared.query.Answer.TheVariants as answer
 use Rattle.iofd_words.specs.declared.query.Query.TheVariants as query
 use Rattle.server_state.specs.Choice.{IsLooked}
-use Rattle.event_device_access.proofs.DeviceReads.{cached_only, chosen_read, pass_told}
-use Rattle.server_state.proofs.ViewShown.{same_outcomes}
-use Rattle.event_device_access.specs.Outcomes.{chosen_outcome}
 use Rattle.event_device_access.proofs.device_read.read.Goals as goal
-
-pub cached-requires-clause-asked : goal.cached-requires-clause-asked
-cached-requires-clause-asked g c = record { known = c.requires.known; none = c.requires.none }
-
-pub cached-requires-clause-passes : goal.cached-requires-clause-passes
-cached-requires-clause-passes g c =
-    let known = c.requires.known in
-    let w = known.world in
-    let frame = c.in-Ok.frame in
-    let same = same_outcomes w c.args.state.now known.shows known.tidy.tabled.owned c.args.device c.args.iova.0 Read in
-    let told : Passes frame ≡ chosen_outcome None (outcomes w c.args.device c.args.iova.0 Read) =
-    c.in-Ok.ensures ∙ ap (chosen_outcome None) same in
-    let chosen = chosen_read {A = g.row.A.Denot} known.at w [] c.args.device c.args.iova c.args.len (Passes frame)
-    known.tidy told in
-    ap (list_any (is_pass_at frame)) same
-    ∙ pass_told frame (outcomes w c.args.device c.args.iova.0 Read) chosen.0
 
 pub returns-in-Ok : goal.returns-in-Ok
 returns-in-Ok g c = λ at w records tidy shows none.
-    let frame = c.in-Ok.frame in
-    let iova = c.args.iova in
-    let told : Passes frame ≡ chosen_outcome None (outcomes w c.args.device iova.0 Read) =
-    c.in-Ok.ensures ∙ ap (chosen_outcome None)
-    (same_outcomes w c.args.state.now shows tidy.tabled.owned c.args.device iova.0 Read) in
-    let chosen = chosen_read at w records c.args.device iova c.args.len (Passes frame) tidy told in
-    let passes = pass_told frame (outcomes w c.args.device iova.0 Read) chosen.0 in
-    subst (λ given. IsLooked (lawful_answers w records (query.DeviceRead c.args.device iova c.args.len)) given)
-    (cached_only w c.args.device iova c.args.len frame passes c.cached.result
-    (c.cached.ensures at w records tidy shows none)) chosen.1
+    let bytes = c.in-Ok.bytes.now in
+    let is : c.unwrap.result ≡ bytes =
+    subst (λ (o : Option (List ℕ)). IfSome o (λ burst. burst ≡ bytes)) c.unwrap.ensures c.new.ensures.value in
+    subst (λ (b : List ℕ). IsLooked
+    (lawful_answers w records (query.DeviceRead c.args.device c.args.iova c.args.len)) (answer.Read b))
+    (sym is) (c.in-Ok.ensures.read at w records tidy shows none)
 
 pub returns-in-Err : goal.returns-in-Err
 returns-in-Err g c = λ at w records tidy shows none.
-    let told = c.in-Err.ensures ∙ ap (chosen_outcome None)
-    (same_outcomes w c.args.state.now shows tidy.tabled.owned c.args.device c.args.iova.0 Read) in
-    let chosen = chosen_read at w records c.args.device c.args.iova c.args.len _ tidy told in
-    let fault = c.denied.ensures ∙ ap
-    (λ settings. answer.Fault (fault_of settings c.args.device c.args.iova.0 Read c.in-Err.reason))
-    (sym shows.settings) in
-    rw fault chosen.1
+    rw c.denied.ensures (c.in-Err.ensures.denied at w records tidy shows none)
