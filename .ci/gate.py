@@ -5,6 +5,7 @@ functions that they name, and the static library built; where the kit's rt is ma
 To be run at the top of the repository.
 """
 import contextlib
+import hashlib
 import os
 import re
 import signal
@@ -41,8 +42,8 @@ def checks_some_by_several_lanes(rt):
 
 
 def functions_of(edit):
-    """The functions that a must-fail edit names in lines `# only: PATH`, whose contracts refuse it."""
-    with open(edit, encoding="utf-8") as lines:
+    """The functions that a must-fail edit names in lines `# only: PATH`, one of whose contracts refuses it."""
+    with open(edit, encoding="utf-8", errors="replace") as lines:
         return [line.removeprefix("# only:").strip() for line in lines if line.startswith("# only:")]
 
 
@@ -50,7 +51,9 @@ def tries_edits_at_their_functions(rt):
     """Has each edit that names functions tried by a check of these alone.
 
     They are refused there for just what refuses them in a check of the whole crate, which proves all other functions
-    beside. An edit that isn't refused so is tried as rt tries one that names none: that is the verdict then.
+    beside. An edit that isn't refused so is tried as rt tries one that names none: that is the verdict then. What such a
+    try came to is kept under a name of its own, so that rt takes it for no check of the whole crate, nor a try by other
+    code than this for one by it.
     """
     by_whole, check = rt.must_fail, rt.checked
 
@@ -71,7 +74,27 @@ def tries_edits_at_their_functions(rt):
             ran.stdout += "logic=not-proved\n"
         return ran
 
-    rt.must_fail, rt.checked = must_fail, checked
+    by_name = rt.add_edits
+
+    def add_edits(tasks, crate, edits, first, waits, is_well, kept, *others, **named):
+        return by_name(tasks, crate, edits, first, waits, is_well, Named(kept), *others, **named)
+
+    rt.must_fail, rt.checked, rt.add_edits = must_fail, checked, add_edits
+
+
+class Named:
+    """What earlier runs passed, with other names for edits that are tried at functions."""
+
+    def __init__(self, kept):
+        self.kept = kept
+        with open(__file__, "rb") as code:
+            self.code = hashlib.sha256(code.read()).hexdigest()
+
+    def of_edit(self, edit, stamp):
+        return self.kept.of_edit(edit, (stamp, self.code) if functions_of(edit) else stamp)
+
+    def __getattr__(self, name):
+        return getattr(self.kept, name)
 
 
 class Renumbered:
@@ -101,18 +124,22 @@ def begins_no_edit_with_its_crate(rt):
         if len(edits) < 2 or not all(map(functions_of, edits)):
             return together(tasks, crate, edits, *others, **named)
         alone = []
-        for number, edit in enumerate(edits):
+        for edit in edits:
             own = {}
-            alone.append(together(own, crate, [edit], *others, **named))
-            for key, (*before, work) in own.items():
-                begin = lambda given, jobs, work=work, number=number: work(Renumbered(given, number), jobs)
-                tasks[Renumbered({}, number).place(key)] = (*before, begin)
+            alone.append((own, *together(own, crate, [edit], *others, **named)))
+        if any(list(own) != [(crate.name, "edits", 0)] for own, _, _ in alone):
+            # A kit that tries a single edit in other steps.
+            return together(tasks, crate, edits, *others, **named)
+        for number, (own, _, _) in enumerate(alone):
+            [(*before, work)] = own.values()
+            begin = lambda given, jobs, work=work, number=number: work(Renumbered(given, number), jobs)
+            tasks[crate.name, "edits", number] = (*before, begin)
 
         def results(given):
-            return [found for number, (come, _) in enumerate(alone) for found in come(Renumbered(given, number))]
+            return [found for number, (_, come, _) in enumerate(alone) for found in come(Renumbered(given, number))]
 
         def known():
-            told = [known() for _, known in alone]
+            told = [known() for _, _, known in alone]
             return {number: found[0] for number, found in enumerate(told) if found}
 
         return results, known
