@@ -51,9 +51,9 @@ def tries_edits_at_their_functions(rt):
     """Has each edit that names functions tried by a check of these alone.
 
     They are refused there for just what refuses them in a check of the whole crate, which proves all other functions
-    beside. An edit that isn't refused so is tried as rt tries one that names none: that is the verdict then. What such a
-    try came to is kept under a name of its own, so that rt takes it for no check of the whole crate, nor a try by other
-    code than this for one by it.
+    beside. An edit that isn't refused so is tried as rt tries one that names none: that is the verdict then. What comes
+    of such a try is kept under a name of its own, by which nobody takes it for a check of the whole crate, nor what
+    other code than this told for what this would tell.
     """
     by_whole, check = rt.must_fail, rt.checked
 
