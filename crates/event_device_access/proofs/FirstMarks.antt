@@ -1,32 +1,17 @@
--- When memory is taken for a mark: what is kept and what the world says of the marks beside a page, and that a write
--- which passed may pass.
-use Rattle.std.proofs.Common.{◌≡◌, ℕ, zero, suc, Bool, true, false, ◌&&◌, ◌||◌, ◌/◌, eqb, List, [], ◌∷◌}
-use Rattle.std.proofs.Common.{Contains, Some, refl, ◌∙◌, ap, arith}
+-- When memory is taken for a mark: what is kept and what the world says of the marks beside a page.
+use Rattle.std.proofs.Common.{◌≡◌, ℕ, Bool, true, false, ◌&&◌, ◌/◌, eqb, List, [], ◌∷◌}
+use Rattle.std.proofs.Common.{Some, refl, ◌∙◌, arith}
 use Rattle.std.specs.List.{list_any}
 use Rattle.std.proofs.lemmas.Bool.{eqb-true}
 use Rattle.std.proofs.lemmas.Bool.Decides.{nat_tests}
 use Rattle.dirty_bitmap.specs.Tracking.{Tables, is_dirty, is_tracked}
-use Rattle.event_device_access.specs.FirstMark.{has_mark_beside, is_first_mark, is_pass}
+use Rattle.event_device_access.specs.FirstMark.{has_mark_beside, is_first_mark}
 use Rattle.iofd_rows.proofs.Bools.{both_false, both_true, clash, not_false, or_false}
 use Rattle.iofd_words.specs.Dirty.{TrackedTable, has_mark, is_marked, is_tracked_as}
-use Rattle.iofd_words.specs.Policy.{Outcome, Passes}
 use Rattle.iofd_words.specs.declared.numbers.FileNo.{FileNo}
-use Rattle.iofd_words.specs.declared.numbers.FrameNo.{FrameNo}
 use Rattle.iofd_words.specs.declared.numbers.ObjId.{ObjId}
 use Rattle.iofd_words.specs.declared.rows.Attachment.{Attachment}
 use Rattle.server_state.specs.Shows.{DirtyShown}
-
--- ---- it may pass
-
-pub may_pass : (os : List Outcome) (frame : FrameNo) → Contains os (Passes frame) → list_any is_pass os ≡ true
-may_pass [] frame has = absurd (omega (arith, has.1))
-may_pass (o ∷ os) frame (zero, below, same) = let here : is_pass o ≡ true = ap is_pass same in rw here refl
-may_pass (o ∷ os) frame (suc place, below, same) =
-    or_later (is_pass o) (may_pass os frame (place, omega (arith, below), same))
-  where
-    or_later : (b : Bool) → list_any is_pass os ≡ true → (b || list_any is_pass os) ≡ true
-    or_later true later = refl
-    or_later false later = later
 
 -- ---- no mark beside
 

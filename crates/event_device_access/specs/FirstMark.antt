@@ -10,8 +10,10 @@ use Rattle.iofd_words.specs.World.{World}
 use Rattle.iofd_words.specs.declared.fault.AccessKind.TheVariants.{Write}
 use Rattle.iofd_words.specs.declared.numbers.DeviceNo.{DeviceNo}
 use Rattle.iofd_words.specs.declared.numbers.FileNo.{FileNo}
+use Rattle.iofd_words.specs.declared.numbers.FrameNo.{FrameNo}
 use Rattle.iofd_words.specs.declared.numbers.ObjId.{ObjId}
 use Rattle.iofd_words.specs.declared.rows.Attachment.{Attachment}
+use Rattle.event_device_access.specs.Outcomes.{chosen_outcome}
 
 -- it passes, at whichever frame
 abbrev pub is_pass : Outcome → Bool
@@ -29,8 +31,9 @@ is_first_mark None page tables = false
 is_first_mark (Some a) page tables =
     tracks tables a.file a.hwpt && not (list_any (has_mark_beside a.file a.hwpt page) tables)
 
--- the device's write to this address may pass, and the mark that it leaves then is the first of its word
-abbrev pub takes_mark : World → DeviceNo → ℕ → Bool
-takes_mark w device address =
-    list_any is_pass (outcomes w device address Write)
+-- the device's write to this address passes, by its cached frame or where without one no denial is lawful, and the mark
+-- that it leaves is the first of its word
+abbrev pub takes_mark : World → DeviceNo → ℕ → Option FrameNo → Bool
+takes_mark w device address via =
+    is_pass (chosen_outcome via (outcomes w device address Write))
     && is_first_mark (attachment_of w.attachments device) (page_of address) w.tracked

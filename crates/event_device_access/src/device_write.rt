@@ -69,8 +69,8 @@ fn source_of<A: Allocator>(config: &Config<A>, device: DeviceNo) -> SourceId
 /// where the policy lets it, and is denied while the device owes the area a flush. Where it passes, the page is marked
 /// if the device's page table is tracked.
 ///
-/// The only error is want of memory for the mark, where the write may pass, the page table is tracked and no page of
-/// the same word of 64 is marked there. It leaves the world as it was.
+/// The only error is want of memory for the mark, where the write passes, the page table is tracked and no page of the
+/// same word of 64 is marked there. It leaves the world as it was.
 ///
 /// It is part of its caller, so that its reply isn't read back from memory while the bytes that it writes are still on
 /// their way to the cache.
@@ -88,7 +88,7 @@ pub fn commit<A: Allocator + Copy>(
     ensures err { OnErr result (ShowsSame state.old state.new) }
     ensures memory { OnErr result (IsTrue (tracks_writes_of (seen state.old) device)) }
     ensures lacking { OnErr result ((at : ℕ) (w : World) → IsTidy at w → Shows w state.old →
-        IsTrue (takes_mark w device iova.0)) }
+        IsTrue (takes_mark w device iova.0 via)) }
 {
     match access::outcome(state, device, iova.0, AccessKind::Write, via) {
         Ok(frame) => {

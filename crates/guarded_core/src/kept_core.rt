@@ -125,7 +125,7 @@ impl<A: Allocator + Copy> Kept for KeptCore<A> {
     ghost gives = { λ before pass act stamp after.
         IsApplied (record { 0 = pass }) act stamp before.core.history after.core.history };
 
-    ghost wants = { λ it act. MayWant it.core act.event };
+    ghost wants = { λ it act. MayWant it.core act };
 
     fn apply(&mut self, pass: PassNo, act: &Act<A>) -> Result<Stamp, NoMemory> {
         self.core.apply(pass, act)

@@ -65,7 +65,7 @@ module _ {A : Type 0} where
 
   -- memory was wanting for the event or its record: nothing changes
   pub record IsWanting (s : Server A) (e : Event A) (text : List ℕ) (after : Server A) : Type 0 where
-    pub wants : MayWant s e
+    pub wants : MayWant s (record { event = e; via = None })
     pub same : after.history ≡ s.history
     pub text_is : text ≡ line memory_text
 

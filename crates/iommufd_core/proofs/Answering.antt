@@ -102,8 +102,9 @@ pub takes_as : {A : Type 0} (s : State A) (e f : Event A) → e ≡ f
     → IsTrue (takes_memory (seen s) f) → IsTrue (takes_memory (seen s) e)
 takes_as s e f same takes = subst (λ (x : Event _). IsTrue (takes_memory (seen s) x)) (sym same) takes
 
-pub lack_as : {A : Type 0} (w : World) (e f : Event A) → e ≡ f → IsTrue (may_lack w f) → IsTrue (may_lack w e)
-lack_as w e f same lacks = subst (λ (x : Event _). IsTrue (may_lack w x)) (sym same) lacks
+pub lack_as : {A : Type 0} (w : World) (e f : Event A) (via : Option FrameNo) → e ≡ f → IsTrue (may_lack w f via)
+    → IsTrue (may_lack w e via)
+lack_as w e f via same lacks = subst (λ (x : Event _). IsTrue (may_lack w x via)) (sym same) lacks
 
 -- of a world that is shown
 pub takes_in : {A : Type 0} (w : World) (s : State A) → Shows w s

@@ -98,10 +98,10 @@ impl<A: Allocator + Copy> Core<A> {
             → IsChosen (world self.old.history) act.now.event act.now.via stamp.reply) }
 
         // Want of memory comes only where the record has no place, to an event that carries a list, or to one that
-        // nothing refuses and by which something comes, tables may go or a page is marked; to an UNMAP only where it
-        // doesn't wait and some table goes, to a device's write only where it may pass and its mark is the first of
-        // its word. It changes nothing.
-        ensures memory { OnErr result (MayWant self.old act.now.event) }
+        // nothing refuses and by which something comes, tables may go or a page is marked; to a pin only where no equal
+        // one is held, to an UNMAP only where it doesn't wait and some table goes, to a device's write only where it
+        // passes and its mark is the first of its word. It changes nothing.
+        ensures memory { OnErr result (MayWant self.old act.now) }
         ensures unchanged { OnErr result (self.new.history ≡ self.old.history) }
 
         // The memory that it has for records it keeps for them. Where it has none it takes it for as many as there are.

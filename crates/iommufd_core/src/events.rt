@@ -52,7 +52,7 @@ pub(crate) fn answer<A: Allocator + Copy>(
     ensures memory { OnErr result ((first_true (checks (seen state.old) act.now.event) ≡ None)
         × IsTrue (takes_memory (seen state.old) act.now.event)) }
     ensures lacking { OnErr result ((at : ℕ) (w : World) → IsTidy at w → Shows w state.old →
-        first_true (checks (view w) act.now.event) ≡ None → IsTrue (may_lack w act.now.event)) }
+        first_true (checks (view w) act.now.event) ≡ None → IsTrue (may_lack w act.now.event act.now.via)) }
 {
     match refusal(state, &act.event) {
         Some(cause) => Ok(Reply::Refused(Refusal { cause })),
@@ -118,7 +118,7 @@ fn commit<A: Allocator + Copy>(
     ensures err { OnErr result (TidyShowsSame at state.old state.new) }
     ensures memory { OnErr result (IsTrue (takes_memory (seen state.old) act.now.event)) }
     ensures lacking { OnErr result ((at : ℕ) (w : World) → IsTidy at w → Shows w state.old →
-        first_true (checks (view w) act.now.event) ≡ None → IsTrue (may_lack w act.now.event)) }
+        first_true (checks (view w) act.now.event) ≡ None → IsTrue (may_lack w act.now.event act.now.via)) }
 {
     match &act.event {
         Event::IoasAlloc(file) => ioas_alloc::commit(state, *file),

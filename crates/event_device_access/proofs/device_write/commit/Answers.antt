@@ -1,18 +1,17 @@
-use Rattle.std.proofs.Common.{◌≡◌, ◌/◌, ◌%◌, IsTrue, List, ◌∷◌, length, Contains, ◌∙◌, ap, sym, subst, arith}
+use Rattle.std.proofs.Common.{◌≡◌, ◌/◌, ◌%◌, IsTrue, List, ◌∷◌, length, ◌∙◌, ap, sym, subst, arith}
 use Rattle.iofd_rows.proofs.Bools.{both_true}
 use Rattle.iofd_runs.proofs.NotRefused.{write_passed}
 use Rattle.iofd_steps.specs.After.{changed}
 use Rattle.iofd_steps.specs.Answers.{Answers}
 use Rattle.iofd_words.specs.Attachments.{attachment_of}
 use Rattle.iofd_words.specs.Dirty.{marked_by}
-use Rattle.iofd_words.specs.Policy.{Outcome, Passes, fault_of, outcomes}
+use Rattle.iofd_words.specs.Policy.{Passes, fault_of, outcomes}
 use Rattle.iofd_words.specs.View.{view}
 use Rattle.iofd_words.specs.declared.event.Event.TheVariants as event
 use Rattle.iofd_words.specs.declared.fault.AccessKind.TheVariants.{Write}
 use Rattle.iofd_words.specs.declared.reply.Reply.TheVariants as reply
 use Rattle.iofd_words.specs.declared.rows.Attachment.{Attachment}
 use Rattle.event_device_access.proofs.DeviceWrites.{chosen_answer, pass_in_pool, pass_named, tables_written}
-use Rattle.event_device_access.proofs.FirstMarks.{may_pass}
 use Rattle.user_memory_rows.proofs.UserAccess.{short}
 use Rattle.server_state.proofs.Errors.{on_err_same}
 use Rattle.server_state.proofs.ViewShown.{same_outcomes}
@@ -21,7 +20,7 @@ use Rattle.server_state.specs.Shows.{DirtyShown, Shows}
 use Rattle.server_state.specs.declared.state.State.{State}
 use Rattle.frame_memory.specs.Pool.{written}
 use Rattle.user_memory_rows.proofs.FramesFollow.{written_shown}
-use Rattle.event_device_access.specs.FirstMark.{is_first_mark}
+use Rattle.event_device_access.specs.FirstMark.{is_first_mark, is_pass}
 use Rattle.event_device_access.specs.Outcomes.{chosen_outcome}
 use Rattle.event_device_access.proofs.device_write.commit.Goals as goal
 
@@ -123,22 +122,14 @@ returns-in-Err-clause-ok g c = λ at w tidy shows none may.
     (sym shows.settings) in
     (rw fault answer.1, rw fault answer.2, shows)
 
--- memory is wanting only where the write may pass, and for the first mark among 64 pages
+-- memory is wanting only where the write passes, and for the first mark among 64 pages
 pub returns-in_err-mark-in-Ok-clause-lacking : goal.returns-in_err-mark-in-Ok-clause-lacking
 returns-in_err-mark-in-Ok-clause-lacking g c = on_err_same c.from_residual.result _ (λ at w tidy shows.
     let device = c.args.device in
     let iova = c.args.iova in
-    let frame = c.in-Ok.frame in
-    let old = c.args.state.now in
-    let known = c.requires.granted.granted in
-    let own = same_outcomes known.world old known.shows known.tidy.tabled.owned device iova.0 Write in
-    let told : Passes frame ≡ chosen_outcome c.args.via (outcomes known.world device iova.0 Write) =
-    c.in-Ok.ensures ∙ ap (chosen_outcome c.args.via) own in
-    let answer = chosen_answer c.requires.at known.world device iova c.args.via (Passes frame) known.tidy told
-    c.requires.granted.may in
-    let lawful : Contains (outcomes w device iova.0 Write) (Passes frame) =
-    subst (λ (os : List Outcome). Contains os (Passes frame))
-    (sym own ∙ same_outcomes w old shows tidy.tabled.owned device iova.0 Write) answer.0 in
-    both_true _ _ (may_pass (outcomes w device iova.0 Write) frame lawful)
+    let told : Passes c.in-Ok.frame ≡ chosen_outcome c.args.via (outcomes w device iova.0 Write) =
+    c.in-Ok.ensures ∙ ap (chosen_outcome c.args.via)
+    (same_outcomes w c.args.state.now shows tidy.tabled.owned device iova.0 Write) in
+    both_true _ _ (ap is_pass (sym told))
     (subst (λ (l : List Attachment). IsTrue (is_first_mark (attachment_of l device) (iova.0 / 4096) w.tracked))
     (sym shows.devices.attached) (c.in_err-mark-in-Ok.ensures.lacking w.tracked shows.dirty)))

@@ -1,6 +1,6 @@
 use Rattle.std.proofs.Common.{◌≡◌, None, not, [], refl, ap, sym, subst}
 use Rattle.iofd_refusals.specs.Checks.{checks}
-use Rattle.iofd_rows.proofs.Bools.{both_true}
+use Rattle.iofd_rows.proofs.Bools.{both_true, not_false}
 use Rattle.iofd_words.specs.FirstTrue.{first_true}
 use Rattle.iofd_words.specs.View.{view}
 use Rattle.iofd_words.specs.declared.event.Event.{Event}
@@ -312,7 +312,8 @@ returns-in-AccessCreate-clause-memory g c =
 
 pub returns-in-AccessPin-clause-memory : goal.returns-in-AccessPin-clause-memory
 returns-in-AccessPin-clause-memory g c =
-    on_err_same c.commit-in-AccessPin.result _ (takes_as c.args.state.now _ _ c.in-AccessPin.is refl)
+    on_err c.commit-in-AccessPin.result _ _
+    (λ none. takes_as c.args.state.now _ _ c.in-AccessPin.is (not_false _ none)) c.commit-in-AccessPin.ensures.memory
 
 pub returns-in-Attach-clause-memory : goal.returns-in-Attach-clause-memory
 returns-in-Attach-clause-memory g c =
@@ -334,68 +335,68 @@ returns-in-Map-clause-err g c = c.commit-in-Map.ensures.err
 
 pub returns-in-Unmap-clause-lacking : goal.returns-in-Unmap-clause-lacking
 returns-in-Unmap-clause-lacking g c = on_both c.commit-in-Unmap.result _ _ _
-    (λ pending tables at w tidy shows none. lack_as w _ _ c.in-Unmap.is
+    (λ pending tables at w tidy shows none. lack_as w _ _ _ c.in-Unmap.is
     (let unrefused = subst (λ (x : Event _). first_true (checks (view w) x) ≡ None) c.in-Unmap.is none in
     both_true _ _ (ap not (pending at w tidy shows unrefused)) (tables at w tidy shows unrefused)))
     c.commit-in-Unmap.ensures.pending c.commit-in-Unmap.ensures.tables
 
 pub returns-in-IoasAlloc-clause-lacking : goal.returns-in-IoasAlloc-clause-lacking
 returns-in-IoasAlloc-clause-lacking g c =
-    on_err_same c.commit.result _ (λ at w tidy shows none. lack_as w _ _ c.in-IoasAlloc.is refl)
+    on_err_same c.commit.result _ (λ at w tidy shows none. lack_as w _ _ _ c.in-IoasAlloc.is refl)
 
 pub returns-in-AllowIovas-clause-lacking : goal.returns-in-AllowIovas-clause-lacking
 returns-in-AllowIovas-clause-lacking g c =
-    on_err_same c.commit-in-AllowIovas.result _ (λ at w tidy shows none. lack_as w _ _ c.in-AllowIovas.is refl)
+    on_err_same c.commit-in-AllowIovas.result _ (λ at w tidy shows none. lack_as w _ _ _ c.in-AllowIovas.is refl)
 
 pub returns-in-Map-clause-lacking : goal.returns-in-Map-clause-lacking
 returns-in-Map-clause-lacking g c =
-    on_err_same c.commit-in-Map.result _ (λ at w tidy shows none. lack_as w _ _ c.in-Map.is refl)
+    on_err_same c.commit-in-Map.result _ (λ at w tidy shows none. lack_as w _ _ _ c.in-Map.is refl)
 
 pub returns-in-Copy-clause-lacking : goal.returns-in-Copy-clause-lacking
 returns-in-Copy-clause-lacking g c =
-    on_err_same c.commit-in-Copy.result _ (λ at w tidy shows none. lack_as w _ _ c.in-Copy.is refl)
+    on_err_same c.commit-in-Copy.result _ (λ at w tidy shows none. lack_as w _ _ _ c.in-Copy.is refl)
 
 pub returns-in-HwptAlloc-clause-lacking : goal.returns-in-HwptAlloc-clause-lacking
 returns-in-HwptAlloc-clause-lacking g c =
-    on_err_same c.commit-in-HwptAlloc.result _ (λ at w tidy shows none. lack_as w _ _ c.in-HwptAlloc.is refl)
+    on_err_same c.commit-in-HwptAlloc.result _ (λ at w tidy shows none. lack_as w _ _ _ c.in-HwptAlloc.is refl)
 
 pub returns-in-Destroy-clause-lacking : goal.returns-in-Destroy-clause-lacking
 returns-in-Destroy-clause-lacking g c =
-    on_err_same c.commit-in-Destroy.result _ (λ at w tidy shows none. lack_as w _ _ c.in-Destroy.is refl)
+    on_err_same c.commit-in-Destroy.result _ (λ at w tidy shows none. lack_as w _ _ _ c.in-Destroy.is refl)
 
 pub returns-in-Close-clause-lacking : goal.returns-in-Close-clause-lacking
 returns-in-Close-clause-lacking g c =
-    on_err_same c.commit-in-Close.result _ (λ at w tidy shows none. lack_as w _ _ c.in-Close.is refl)
+    on_err_same c.commit-in-Close.result _ (λ at w tidy shows none. lack_as w _ _ _ c.in-Close.is refl)
 
 pub returns-in-UserMap-clause-lacking : goal.returns-in-UserMap-clause-lacking
 returns-in-UserMap-clause-lacking g c =
-    on_err_same c.commit-in-UserMap.result _ (λ at w tidy shows none. lack_as w _ _ c.in-UserMap.is refl)
+    on_err_same c.commit-in-UserMap.result _ (λ at w tidy shows none. lack_as w _ _ _ c.in-UserMap.is refl)
 
 pub returns-in-Bind-clause-lacking : goal.returns-in-Bind-clause-lacking
 returns-in-Bind-clause-lacking g c =
-    on_err_same c.commit-in-Bind.result _ (λ at w tidy shows none. lack_as w _ _ c.in-Bind.is refl)
+    on_err_same c.commit-in-Bind.result _ (λ at w tidy shows none. lack_as w _ _ _ c.in-Bind.is refl)
 
 pub returns-in-Attach-clause-lacking : goal.returns-in-Attach-clause-lacking
 returns-in-Attach-clause-lacking g c =
-    on_err_same c.commit-in-Attach.result _ (λ at w tidy shows none. lack_as w _ _ c.in-Attach.is refl)
+    on_err_same c.commit-in-Attach.result _ (λ at w tidy shows none. lack_as w _ _ _ c.in-Attach.is refl)
 
 pub returns-in-Detach-clause-lacking : goal.returns-in-Detach-clause-lacking
 returns-in-Detach-clause-lacking g c =
-    on_err_same c.commit-in-Detach.result _ (λ at w tidy shows none. lack_as w _ _ c.in-Detach.is refl)
+    on_err_same c.commit-in-Detach.result _ (λ at w tidy shows none. lack_as w _ _ _ c.in-Detach.is refl)
 
 pub returns-in-DeviceWrite-clause-lacking : goal.returns-in-DeviceWrite-clause-lacking
 returns-in-DeviceWrite-clause-lacking g c = on_err c.commit-in-DeviceWrite.result _ _
-    (λ lacking at w tidy shows none. lack_as w _ _ c.in-DeviceWrite.is (lacking at w tidy shows))
+    (λ lacking at w tidy shows none. lack_as w _ _ _ c.in-DeviceWrite.is (lacking at w tidy shows))
     c.commit-in-DeviceWrite.ensures.lacking
 
 pub returns-in-AccessCreate-clause-lacking : goal.returns-in-AccessCreate-clause-lacking
 returns-in-AccessCreate-clause-lacking g c =
-    on_err_same c.commit-in-AccessCreate.result _ (λ at w tidy shows none. lack_as w _ _ c.in-AccessCreate.is refl)
+    on_err_same c.commit-in-AccessCreate.result _ (λ at w tidy shows none. lack_as w _ _ _ c.in-AccessCreate.is refl)
 
 pub returns-in-AccessPin-clause-lacking : goal.returns-in-AccessPin-clause-lacking
 returns-in-AccessPin-clause-lacking g c =
-    on_err_same c.commit-in-AccessPin.result _ (λ at w tidy shows none. lack_as w _ _ c.in-AccessPin.is refl)
+    on_err_same c.commit-in-AccessPin.result _ (λ at w tidy shows none. lack_as w _ _ _ c.in-AccessPin.is refl)
 
 pub returns-in-DirtyEnable-clause-lacking : goal.returns-in-DirtyEnable-clause-lacking
 returns-in-DirtyEnable-clause-lacking g c =
-    on_err_same c.commit-in-DirtyEnable.result _ (λ at w tidy shows none. lack_as w _ _ c.in-DirtyEnable.is refl)
+    on_err_same c.commit-in-DirtyEnable.result _ (λ at w tidy shows none. lack_as w _ _ _ c.in-DirtyEnable.is refl)
