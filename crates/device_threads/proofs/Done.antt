@@ -1,6 +1,6 @@
 -- Jobs that are done one after another.
 use Rattle.std.proofs.Common.{◌≡◌, ℕ, ◌+◌, List, [], ◌∷◌, ◌++◌, length, refl, sym, ap, ◌∙◌, subst}
-use Rattle.std.proofs.Common.{append_assoc, append-nil, length-append, suc, Result, Ok, Err, IfOk, OnErr, arith}
+use Rattle.std.proofs.Common.{append_assoc, append-nil, suc, Result, Ok, Err, IfOk, OnErr, arith}
 use Rattle.iofd_words.specs.Settings.{Settings}
 use Rattle.iofd_words.specs.declared.event.Event.{Event}
 use Rattle.iofd_words.specs.declared.refusal.NoMemory.{NoMemory}
@@ -17,13 +17,6 @@ use Rattle.device_threads.specs.declared.job.JobResult.{JobResult}
 -- a list without its first element
 pub one_fewer : {X : Type 0} (xs others : List X) (x : X) → xs ≡ x ∷ others → length xs ≡ suc (length others)
 one_fewer xs others x is = ap length is
-
--- a list with one element more
-pub one_longer : {X : Type 0} (xs new : List X) (x : X) → new ≡ xs ++ x ∷ [] → length new ≡ suc (length xs)
-one_longer xs new x is =
-    let all : length (xs ++ x ∷ []) ≡ length xs + length (x ∷ []) = length-append xs (x ∷ []) in
-    let here : length new ≡ length (xs ++ x ∷ []) = ap length is in
-    omega (arith, all, here)
 
 module _ {A : Type 0} {g : CoreGhosts A} where
   -- a call of a port that makes one record, or none for want of memory

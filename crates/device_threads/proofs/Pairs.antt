@@ -1,7 +1,14 @@
 -- Two lists of one length, one element longer or shorter at their ends.
-use Rattle.std.proofs.Common.{◌≡◌, ℕ, List, [], ◌∷◌, ◌++◌, length, zero, suc, refl, sym, ap, ◌∙◌, subst}
-use Rattle.std.proofs.Common.{append_assoc, append-nil, slice_get, Some, arith}
+use Rattle.std.proofs.Common.{◌≡◌, ℕ, ◌+◌, List, [], ◌∷◌, ◌++◌, length, zero, suc, refl, sym, ap, ◌∙◌, subst}
+use Rattle.std.proofs.Common.{append_assoc, append-nil, length-append, slice_get, Some, arith}
 use Rattle.device_threads.specs.Pairs.{Pairwise}
+
+-- a list with one element more
+pub one_longer : {X : Type 0} (xs new : List X) (x : X) → new ≡ xs ++ x ∷ [] → length new ≡ suc (length xs)
+one_longer xs new x is =
+    let all : length (xs ++ x ∷ []) ≡ length xs + length (x ∷ []) = length-append xs (x ∷ []) in
+    let here : length new ≡ length (xs ++ x ∷ []) = ap length is in
+    omega (arith, all, here)
 
 module _ {X Y : Type 0} (Are : X → Y → Type 0) where
   pub pair_more : (xs : List X) (ys : List Y) (x : X) (y : Y) → Pairwise Are xs ys → Are x y
@@ -25,6 +32,23 @@ module _ {X Y : Type 0} (Are : X → Y → Type 0) where
   pair_lengths (x ∷ xs) (y ∷ ys) all = ap suc (pair_lengths xs ys all.1)
   pair_lengths [] (y ∷ ys) all = absurd all
   pair_lengths (x ∷ xs) [] all = absurd all
+
+  -- what holds of each of the first list beside what holds of each pair
+  pub pair_all : (P : X → Type 0) (Also : X → Y → Type 0) → ((x : X) (y : Y) → P x → Are x y → Also x y) → (xs : List X)
+      (ys : List Y) → ((i : ℕ) (x : X) → slice_get xs i ≡ Some x → P x) → Pairwise Are xs ys → Pairwise Also xs ys
+  pair_all P Also both [] [] each all = tt
+  pair_all P Also both (x ∷ xs) (y ∷ ys) each all =
+      (both x y (each 0 x refl) all.0, pair_all P Also both xs ys (λ i z at. each (suc i) z at) all.1)
+  pair_all P Also both [] (y ∷ ys) each all = absurd all
+  pair_all P Also both (x ∷ xs) [] each all = absurd all
+
+  -- pairs that are in one relation are in another
+  pub pair_map : (Also : X → Y → Type 0) → ((x : X) (y : Y) → Are x y → Also x y) → (xs : List X) (ys : List Y)
+      → Pairwise Are xs ys → Pairwise Also xs ys
+  pair_map Also also [] [] all = tt
+  pair_map Also also (x ∷ xs) (y ∷ ys) all = (also x y all.0, pair_map Also also xs ys all.1)
+  pair_map Also also [] (y ∷ ys) all = absurd all
+  pair_map Also also (x ∷ xs) [] all = absurd all
 
   -- what holds of the second of each pair holds of the whole second list
   pub pair_seconds : (P : Y → Type 0) → ((x : X) (y : Y) → Are x y → P y) → (xs : List X) (ys : List Y)

@@ -57,11 +57,3 @@ module _ {A : Type 0} {g : CoreGhosts A} where
   pub record IsReady (server : Server A) (worker : CoreWorker A g) (results : Vec JobResult Global) : Type 0 where
     pub can : CanRun server worker
     pub room : HasRoom worker results
-
-  -- workers that can run, room for the results of each, and for what they hand back
-  pub record AreReady (server : Server A) (workers : List (CoreWorker A g)) (rooms : List (Vec JobResult Global))
-      (finished : Vec (CoreFinished A g) Global) : Type 0 where
-    pub can : AllCanRun server workers
-    pub each : Pairwise HasRoom workers rooms
-    pub empty : finished.items ≡ []
-    pub enough : length workers ≤ vec_capacity finished

@@ -2,6 +2,7 @@
 //! hands the port back with one result for each job.
 #![tactic(auto)]
 
+mod beside;
 mod gate;
 mod job;
 mod memory;

@@ -1,6 +1,6 @@
 //! The memory of all results, which is taken before any worker is started.
 
-ghost use Rattle.std.specs.Prelude.{IfOk};
+ghost use Rattle.std.specs.Prelude.{◌≡◌, ◌≤◌, [], IfOk, length, vec_capacity};
 ghost use Rattle.device_threads.specs.Pairs.{Pairwise};
 ghost use Rattle.device_threads.specs.Workers.{HasRoom};
 
@@ -9,10 +9,16 @@ use crate::worker::{Finished, Worker};
 use iofd_words::NoMemory;
 use std::alloc::Global;
 
-// Room for the results of all jobs of each worker.
-pub(crate) fn rooms_for(alloc: Global, workers: &[Worker]) -> Result<Vec<Vec<JobResult>>, NoMemory>
-    ensures { IfOk result (λ rooms. Pairwise HasRoom workers.now rooms.items) }
+// Room for the results of all jobs of each worker, and for what each hands back.
+pub(crate) fn rooms_for(
+    alloc: Global,
+    workers: &[Worker],
+) -> Result<(Vec<Vec<JobResult>>, Vec<Finished>), NoMemory>
+    ensures rooms { IfOk result (λ r. Pairwise HasRoom workers.now r.0.items) }
+    ensures empty { IfOk result (λ r. r.1.items ≡ []) }
+    ensures enough { IfOk result (λ r. length workers.now ≤ vec_capacity r.1) }
 {
+    let finished = Vec::with_capacity(alloc, workers.len())?;
     let mut rooms = Vec::with_capacity(alloc, workers.len())?;
     let mut left = workers;
     while let Some((worker, others)) = left.split_first() {
@@ -20,7 +26,7 @@ pub(crate) fn rooms_for(alloc: Global, workers: &[Worker]) -> Result<Vec<Vec<Job
         rooms.push_reserved(room);
         left = others;
     }
-    Ok(rooms)
+    Ok((rooms, finished))
 }
 
 // Room for the results of the worker's jobs.

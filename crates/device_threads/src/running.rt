@@ -1,9 +1,9 @@
 //! Workers at work, each in a thread of its own.
 
-ghost use Rattle.std.specs.Prelude.{◌≡◌, IfErr, IfOk, length, vec_capacity};
-ghost use Rattle.std.specs.Thread.{IsSync};
-ghost use Rattle.device_threads.specs.Workers.{AllBack, AllCanRun, AreReady, HasRun, HaveRun, IsReady};
+ghost use Rattle.std.specs.Prelude.{◌≡◌, IfErr, IfOk};
+ghost use Rattle.device_threads.specs.Workers.{AllBack, AllCanRun, HasRun, HaveRun, IsReady};
 
+use crate::beside::call_beside;
 use crate::gate::Gate;
 use crate::job::JobResult;
 use crate::memory::rooms_for;
@@ -12,7 +12,7 @@ use crate::working::work;
 use shared_iommufd::Server;
 use std::alloc::Global;
 use std::sync::Wait;
-use std::thread::{Threads, join};
+use std::thread::Threads;
 
 /// Has each worker do its jobs, one after another, in a thread of its own; a worker for which no thread can be started
 /// does them in this one, once the others have been started. It returns when all have ended, and hands the ports back,
@@ -35,45 +35,12 @@ pub fn run<R: Threads + Wait + Sync, G: Gate + Sync>(
     ensures back { IfOk result (λ finished. AllBack server.now finished.items) }
     ensures refused { IfErr result (λ back. back.workers ≡ workers) }
 {
-    let Ok(rooms) = rooms_for(alloc, &workers) else {
+    let Ok((rooms, finished)) = rooms_for(alloc, &workers) else {
         return Err(NotStarted { workers });
     };
-    let Ok(finished) = Vec::with_capacity(alloc, workers.len()) else {
-        return Err(NotStarted { workers });
-    };
-    Ok(run_all(rt, server, gate, workers, rooms, finished))
-}
-
-// Runs the workers, each in a thread of its own, and joins them. A worker for which no thread can be made runs here,
-// after the others.
-#[cycle(workers)]
-fn run_all<R: Threads + Wait + Sync, G: Gate + Sync>(
-    rt: &R,
-    server: &Server,
-    gate: &G,
-    mut workers: Vec<Worker>,
-    mut rooms: Vec<Vec<JobResult>>,
-    finished: Vec<Finished>,
-) -> Vec<Finished>
-    requires { AreReady server.now workers.items rooms.items finished }
-    ensures run { HaveRun server.now workers.items result.items }
-    ensures capacity { vec_capacity result ≡ vec_capacity finished }
-{
-    let Some(worker) = workers.pop() else {
-        return finished;
-    };
-    let Some(room) = rooms.pop() else {
-        unreachable!()
-    };
-    let last = move || -> Finished
+    let does = move |worker: Worker, room: Vec<JobResult>| -> Finished
         requires { IsReady server.now worker room }
         ensures { HasRun server.entry.now worker result }
     { work(rt, server, gate, worker, room) };
-    let others = move || -> Vec<Finished>
-        requires { IsSync R.row × IsSync G.row × AreReady server.now workers.items rooms.items finished }
-        ensures { HaveRun server.entry.now workers.items result.items × (vec_capacity result ≡ vec_capacity finished) }
-    { run_all(rt, server, gate, workers, rooms, finished) };
-    let (done, mut all) = join(rt, last, others);
-    all.push_reserved(done);
-    all
+    Ok(call_beside(rt, &does, workers, rooms, finished))
 }

@@ -25,7 +25,7 @@ loop-worker-preserved c =
           c.in_ok-room.ensures loop.invariant.each;
     }
 
-pub returns : goal.returns
-returns c =
+pub returns-clause-rooms : goal.returns-clause-rooms
+returns-clause-rooms c =
     let loop = c.loop-worker in
     go_all HasRoom c.args.workers.now loop.left.now loop.rooms.items c.in_default.ensures.cases loop.invariant.each

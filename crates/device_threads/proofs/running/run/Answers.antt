@@ -1,10 +1,26 @@
+use Rattle.std.proofs.Common.{subst}
 use Rattle.shared_iommufd.specs.Ports.{IsPortOf}
-use Rattle.device_threads.specs.Workers.{HasRun}
-use Rattle.device_threads.proofs.Pairs.{pair_seconds}
+use Rattle.device_threads.specs.Pairs.{Pairwise}
+use Rattle.device_threads.specs.Workers.{CanRun, HasRoom, HasRun, HaveRun}
+use Rattle.device_threads.proofs.Pairs.{pair_all, pair_map, pair_seconds}
 use Rattle.device_threads.proofs.running.run.Goals as goal
 
-pub returns-clause-back : goal.returns-clause-back
-returns-clause-back g c =
+pub call_beside-requires-clause-may : goal.call_beside-requires-clause-may
+call_beside-requires-clause-may g c κs within =
     let server = c.args.server.now in
-    pair_seconds (HasRun server) (λ one. IsPortOf server one.port) (λ worker one ran. ran.owned) c.args.workers.items
-    c.run_all.result.items c.run_all.ensures.run
+    pair_all HasRoom (CanRun server) _ (λ worker room can has. record { can = can; room = has })
+    c.args.workers.items c.in-Ok.rooms.items c.requires
+    (subst (λ workers. Pairwise HasRoom workers c.in-Ok.rooms.items) c.deref.ensures.value c.in-Ok.ensures.rooms)
+
+pub returns : goal.returns
+returns g c =
+    let server = c.args.server.now in
+    let ran : HaveRun server c.args.workers.items c.call_beside.result.items =
+    pair_map _ (HasRun server) (λ worker one came. came.1) c.args.workers.items c.call_beside.result.items
+    c.call_beside.ensures.came in
+    record {
+      run = ran;
+      back = pair_seconds (HasRun server) (λ one. IsPortOf server one.port) (λ worker one has. has.owned)
+          c.args.workers.items c.call_beside.result.items ran;
+      refused = tt;
+    }

@@ -7,7 +7,8 @@ use Rattle.shared_iommufd.proofs.Shown.{same_pass}
 use Rattle.shared_iommufd.specs.Servers.{settings_of}
 use Rattle.device_threads.specs.declared.job.Job.{Job}
 use Rattle.device_threads.specs.declared.job.JobResult.{JobResult}
-use Rattle.device_threads.proofs.Done.{GoesOn, all_done, none_done, one_done, one_fewer, one_longer}
+use Rattle.device_threads.proofs.Done.{GoesOn, all_done, none_done, one_done, one_fewer}
+use Rattle.device_threads.proofs.Pairs.{one_longer}
 use Rattle.device_threads.proofs.working.work.Goals as goal
 
 pub loop-job-init : goal.loop-job-init
