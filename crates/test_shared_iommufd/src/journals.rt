@@ -1,20 +1,14 @@
 //! A server's journal while it is open.
 
-ghost use Rattle.shared_iommufd.specs.Servers.{IsPassOf};
-
 use crate::rows::count_records;
+use crate::served::Caller;
 use journal_audit::{Verdict, audit};
-use shared_iommufd::{Pass, Server};
 use std::alloc::Global;
-use std::sync::Wait;
 
 /// How many records there are, if the auditor says of the journal that it is a run of so many.
-pub fn audited<R: Wait>(rt: &R, global: Global, server: &Server, pass: &mut Pass) -> Option<u64>
-    requires { IsPassOf server.now pass.old }
-    ensures { IsPassOf server.now pass.new }
-{
-    let count = count_records(rt, server, pass);
-    match server.journal(rt, pass) {
+pub fn audited<C: Caller>(global: Global, caller: &mut C) -> Option<u64> {
+    let count = count_records(caller);
+    match caller.journal() {
         Ok(journal) if is_run(global, &journal, count) => Some(count),
         _ => None,
     }

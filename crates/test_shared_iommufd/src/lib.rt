@@ -19,7 +19,11 @@ mod rows;
 #[cfg(test)]
 mod scripts;
 #[cfg(test)]
+mod served;
+#[cfg(test)]
 mod steps;
+#[cfg(test)]
+mod test_server;
 #[cfg(test)]
 mod threads;
 #[cfg(test)]

@@ -1,15 +1,12 @@
 //! Servers whose user has pages, all of them mapped for the device.
 
-ghost use Rattle.std.specs.Prelude.{IfSome};
-ghost use Rattle.shared_iommufd.specs.Ports.{IsKeyOf};
-ghost use Rattle.shared_iommufd.specs.Servers.{ArePassesOf, IsPassOf};
-
-use crate::opened::{config, last_pass, opened_with, put_last};
+use crate::opened::{Size, opened};
 use crate::ports::is_answered;
 use crate::rows::are_rows;
+use crate::served::Caller;
+use crate::test_server::TestServer;
 use crate::work::{APART, PAGES, USER, va_of};
-use iofd_words::{Act, Event, FrameNo, Reply};
-use shared_iommufd::{Pass, PortKey, Server};
+use iofd_words::{Event, FrameNo, Reply};
 use std::alloc::Global;
 use std::sync::Wait;
 
@@ -21,48 +18,40 @@ const MAPPED: &str = "\
 1 bind 1 1 = ok id 2
 ";
 
-// Whether the user gets its pages, in the order of the frames.
-fn gets_pages<R: Wait>(rt: &R, server: &Server, pass: &mut Pass) -> bool
-    requires { IsPassOf server.now pass.old }
-    ensures { IsPassOf server.now pass.new }
-{
-    let mut all = true;
+// Whether the user gets its pages, in the order of the frames, and all are mapped.
+fn are_mapped<C: Caller>(global: Global, caller: &mut C) -> bool {
     for page in 0..PAGES {
-        let event = Event::UserMap(USER, va_of(page));
-        let act = Act { event, via: None };
-        all = is_answered(server.call(rt, pass, &act), Reply::Frame(FrameNo(page))) && all;
+        let made = caller.call(Event::UserMap(USER, va_of(page)));
+        if !is_answered(made, Reply::Frame(FrameNo(page))) {
+            return false;
+        }
     }
-    all
+    are_rows(global, caller, MAPPED)
 }
 
-// Whether they are mapped then, by the last of the passes.
-fn is_ready<R: Wait>(rt: &R, global: Global, server: &Server, passes: &mut Vec<Pass>) -> bool
-    requires { ArePassesOf server.now passes.old.items }
-    ensures { ArePassesOf server.now passes.new.items }
-{
-    let Some(mut pass) = last_pass(server, passes) else {
-        return false;
-    };
-    let mapped = gets_pages(rt, server, &mut pass)
-        && are_rows(rt, global, server, &mut pass, MAPPED);
-    put_last(server, passes, pass) && mapped
+// The caller, once they are. Where they aren't, what is done next doesn't pass.
+fn mapped<C: Caller>(global: Global, mut caller: C) -> C {
+    let _mapped = are_mapped(global, &mut caller);
+    caller
 }
 
-/// A server with so many lanes, passes for so many threads, and all pages mapped.
-pub fn ready<R: Wait>(
-    rt: &R,
+/// A server with so many lanes, passes for so many threads, and all pages mapped, whose port keeps so many.
+pub fn ready<'a, R: Wait>(
+    rt: &'a R,
     global: Global,
     threads: u8,
     lanes: u16,
     keeps: u16,
-) -> Option<(Server, PortKey, Vec<Pass>)>
-    ensures { IfSome result (λ r. IsKeyOf r.0 r.1 × ArePassesOf r.0 r.2.items) }
-{
-    let config = config(global, 128, u64::from(PAGES), u16::from(threads) * APART)?;
-    let (server, key, mut passes) = opened_with(global, &config, lanes, keeps)?;
-    if is_ready(rt, global, &server, &mut passes) {
-        Some((server, key, passes))
-    } else {
-        None
+) -> Option<TestServer<'a, R>> {
+    let size = Size {
+        frames: 128,
+        pinned: u64::from(PAGES),
+        lanes,
+        keeps,
+        others: u16::from(threads) * APART,
+    };
+    match opened(rt, global, &size) {
+        Some(server) => Some(mapped(global, server)),
+        None => None,
     }
 }

@@ -1,18 +1,13 @@
-//! Scripts worked by hand, through the one pass of a server.
-
-ghost use Rattle.shared_iommufd.specs.Servers.{ArePassesOf};
+//! Scripts worked by hand, through one pass of a server.
 
 use crate::journals::audited;
-use crate::opened::{closed, last_pass, opened, put_last};
-use crate::rows::{are_rows, row_of};
-use ioctl_codec::{decode, encode};
-use iommufd_script::Step;
-use shared_iommufd::{CloseError, Core, Pass, Server};
+use crate::opened::{SMALL, opened};
+use crate::rows::are_rows;
+use crate::served::{Caller, Whole, ends};
 use std::alloc::Global;
 use std::sync::Wait;
 
-// Scripts whose structures are all canonical.
-static CANONICAL: [&str; 4] = [
+static SCRIPTS: [&str; 9] = [
     "\
 1 ioctl 1 3b81 0c0000000000000000000000 = 0 0c0000000000000001000000
 1 ioctl 2 3b80 0800000001000000 = 2 Id
@@ -76,10 +71,6 @@ static CANONICAL: [&str; 4] = [
 0 notices 1 2 = ok 1000-1fff
 0 notices 1 1 = 2 Id
 ",
-];
-
-// Others.
-static OTHERS: [&str; 5] = [
     "\
 1 ioctl 1 3b81 10000000000000000000000000000000 = 0 0c0000000000000001000000
 0 ioctl 1 3b81 10000000000000000000000001000000 = 7 Tail
@@ -122,74 +113,16 @@ static OTHERS: [&str; 5] = [
 ",
 ];
 
-// Whether the bytes are the canonical spelling of the command that they spell.
-fn is_spelling(global: Global, number: u32, bytes: &[u8]) -> bool {
-    let Ok(command) = decode(global, number, bytes) else {
-        return false;
-    };
-    if !command.is_spellable() {
-        return false;
-    }
-    match encode(global, &command) {
-        Ok(spelling) => spelling.as_slice() == bytes,
-        Err(_) => false,
-    }
+// Whether a server that has made no record is told so, and ends with the records that were counted.
+fn are_told<S: Caller + Whole>(global: Global, mut server: S, rows: &str) -> bool {
+    let told = are_rows(global, &mut server, rows);
+    let count = audited(global, &mut server);
+    ends(server, count) && told
 }
 
-// Whether the row's structure, if it has one, is canonical.
-fn is_canonical(global: Global, row: &str) -> bool {
-    match row_of(row) {
-        Some((_, Step::Ioctl(_, number, spelt), _)) => match spelt.to_vec(global) {
-            Ok(bytes) => is_spelling(global, number, &bytes),
-            Err(_) => false,
-        },
-        _ => true,
-    }
-}
-
-fn are_canonical(global: Global, rows: &str) -> bool {
-    for row in rows.lines() {
-        if !is_canonical(global, row) {
-            return false;
-        }
-    }
-    true
-}
-
-// How many records there are once the one pass has played the rows, if they were told so; and it is put back.
-fn lends<R: Wait>(
-    rt: &R,
-    global: Global,
-    server: &Server,
-    passes: &mut Vec<Pass>,
-    rows: &str,
-) -> Option<u64>
-    requires { ArePassesOf server.now passes.old.items }
-    ensures { ArePassesOf server.now passes.new.items }
-{
-    let Some(mut pass) = last_pass(server, passes) else {
-        return None;
-    };
-    let told = are_rows(rt, global, server, &mut pass, rows);
-    let count = audited(rt, global, server, &mut pass);
-    let back = put_last(server, passes, pass);
-    if told && back { count } else { None }
-}
-
-fn ends(closed: Result<Core, CloseError>, count: Option<u64>) -> bool {
-    match closed {
-        Ok(core) => count == Some(core.records().len() as u64),
-        Err(_) => false,
-    }
-}
-
-// Whether a new server is told so, and ends with the records that were counted.
-fn are_told<R: Wait>(rt: &R, global: Global, rows: &str) -> bool {
-    match opened(global, 1) {
-        Some((server, _key, mut passes)) => {
-            let count = lends(rt, global, &server, &mut passes, rows);
-            ends(closed(server, passes), count)
-        }
+fn are_told_by_new<R: Wait>(rt: &R, global: Global, rows: &str) -> bool {
+    match opened(rt, global, &SMALL) {
+        Some(server) => are_told(global, server, rows),
         None => false,
     }
 }
@@ -197,10 +130,7 @@ fn are_told<R: Wait>(rt: &R, global: Global, rows: &str) -> bool {
 #[test]
 fn scripts_are_answered(rt: HostRuntime) {
     let global = rt.alloc();
-    for rows in &CANONICAL {
-        assert!(rt; are_canonical(global, rows) && are_told(&rt, global, rows));
-    }
-    for rows in &OTHERS {
-        assert!(rt; are_told(&rt, global, rows));
+    for rows in &SCRIPTS {
+        assert!(rt; are_told_by_new(&rt, global, rows));
     }
 }

@@ -1,16 +1,15 @@
-//! One step of a script, carried out by a pass.
+//! One step of a script, carried out by a caller.
 
 ghost use Rattle.std.specs.Prelude.{◌≡◌, false, IfSome};
 ghost use Rattle.guarded_core.specs.OfPort.{event_of_port, query_of_port};
-ghost use Rattle.shared_iommufd.specs.Servers.{IsPassOf};
 
 use crate::lines::{tells_answer, tells_ioctl, tells_notices, tells_stamp};
 use crate::rows::count_records;
-use iofd_words::{Act, Event, FileNo, NoMemory, Query};
+use crate::served::Caller;
+use iofd_words::{Event, FileNo, NoMemory, Query};
 use iommufd_script::{HexBytes, Step};
-use shared_iommufd::{IoctlAnswer, Pass, Server};
+use shared_iommufd::IoctlAnswer;
 use std::alloc::Global;
-use std::sync::Wait;
 
 // While a block of so many bytes is held, `tests/growth` may refuse a growth.
 const WATCHED: usize = 54321;
@@ -58,49 +57,39 @@ fn query_of(step: &Step<'_>) -> Option<Query>
 }
 
 // An ioctl, to which a growth may be refused.
-fn watched<R: Wait>(
-    rt: &R,
+fn watched<C: Caller>(
     global: Global,
-    server: &Server,
-    pass: &mut Pass,
+    caller: &mut C,
     file: FileNo,
     number: u32,
     bytes: &[u8],
-) -> Option<Result<IoctlAnswer, NoMemory>>
-    requires { IsPassOf server.now pass.old }
-    ensures { IsPassOf server.now pass.new }
-{
+) -> Option<Result<IoctlAnswer, NoMemory>> {
     match Vec::<u8>::with_capacity(global, WATCHED) {
-        Ok(_block) => Some(server.ioctl(rt, pass, file, number, bytes)),
+        Ok(_block) => Some(caller.ioctl(file, number, bytes)),
         Err(_) => None,
     }
 }
 
 // Whether the ioctl that these digits spell has this line, where so many records were made before. One that was refused
 // a growth makes no record, and has it when it is made again at once.
-fn is_ioctl<R: Wait>(
-    rt: &R,
+fn is_ioctl<C: Caller>(
     global: Global,
-    server: &Server,
-    pass: &mut Pass,
+    caller: &mut C,
     file: FileNo,
     number: u32,
     spelt: &HexBytes<'_>,
     line: &[u8],
     before: u64,
-) -> bool
-    requires { IsPassOf server.now pass.old }
-    ensures { IsPassOf server.now pass.new }
-{
+) -> bool {
     let Ok(bytes) = spelt.to_vec(global) else {
         return false;
     };
-    let mut told = watched(rt, global, server, pass, file, number, &bytes);
+    let mut told = watched(global, caller, file, number, &bytes);
     if let Some(Err(NoMemory)) = told {
-        if count_records(rt, server, pass) != before {
+        if count_records(caller) != before {
             return false;
         }
-        told = Some(server.ioctl(rt, pass, file, number, &bytes));
+        told = Some(caller.ioctl(file, number, &bytes));
     }
     match told {
         Some(Ok(answer)) => tells_ioctl(global, line, &answer),
@@ -108,67 +97,32 @@ fn is_ioctl<R: Wait>(
     }
 }
 
-// Whether an event has this line, where so many records were made before.
-fn is_made<R: Wait>(
-    rt: &R,
-    server: &Server,
-    pass: &mut Pass,
-    event: Event,
-    line: &[u8],
-    before: u64,
-) -> bool
-    requires owned { IsPassOf server.now pass.old }
-    requires event { event_of_port event ≡ false }
-    ensures { IsPassOf server.now pass.new }
-{
-    let act = Act { event, via: None };
-    let stamp = server.call(rt, pass, &act);
-    tells_stamp(line, &stamp, before)
-}
-
 // Whether a step that is an event or a question has this line, where so many records were made before.
-fn is_told<R: Wait>(
-    rt: &R,
-    server: &Server,
-    pass: &mut Pass,
-    step: &Step<'_>,
-    line: &[u8],
-    before: u64,
-) -> bool
-    requires { IsPassOf server.now pass.old }
-    ensures { IsPassOf server.now pass.new }
-{
+fn is_told<C: Caller>(caller: &mut C, step: &Step<'_>, line: &[u8], before: u64) -> bool {
     match query_of(step) {
-        Some(query) => tells_answer(line, &server.look(rt, pass, &query)),
+        Some(query) => tells_answer(line, &caller.look(&query)),
         None => match event_of(step) {
-            Some(event) => is_made(rt, server, pass, event, line, before),
+            Some(event) => tells_stamp(line, &caller.call(event), before),
             None => false,
         },
     }
 }
 
 /// Whether the step has this line, where so many records were made before.
-pub fn is_answered<R: Wait>(
-    rt: &R,
+pub fn is_answered<C: Caller>(
     global: Global,
-    server: &Server,
-    pass: &mut Pass,
+    caller: &mut C,
     step: &Step<'_>,
     line: &[u8],
     before: u64,
-) -> bool
-    requires { IsPassOf server.now pass.old }
-    ensures { IsPassOf server.now pass.new }
-{
+) -> bool {
     match step {
         Step::Ioctl(file, number, bytes) => {
-            is_ioctl(
-                rt, global, server, pass, *file, *number, bytes, line, before,
-            )
+            is_ioctl(global, caller, *file, *number, bytes, line, before)
         }
         Step::Notices(file, access) => {
-            tells_notices(global, line, &server.notices(rt, pass, *file, *access))
+            tells_notices(global, line, &caller.notices(*file, *access))
         }
-        _ => is_told(rt, server, pass, step, line, before),
+        _ => is_told(caller, step, line, before),
     }
 }

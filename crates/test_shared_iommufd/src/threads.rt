@@ -1,13 +1,9 @@
 //! Passes in four threads of their own make each record once.
 
-ghost use Rattle.std.specs.Prelude.{◌≡◌};
-ghost use Rattle.shared_iommufd.specs.Servers.{ArePassesOf};
-
 use crate::mapped::ready;
-use crate::opened::closed;
-use crate::work::{PAGES, Task, byte_of, crowd, page_of, va_of};
+use crate::served::Whole;
+use crate::work::{PAGES, Task, byte_of, page_of, va_of};
 use iofd_words::{Event, PassNo, Record};
-use shared_iommufd::{CloseError, Core, Pass, Server};
 use std::alloc::Global;
 use std::sync::Wait;
 use std::thread::Threads;
@@ -24,14 +20,6 @@ const CALLS: usize = 100;
 
 // The passes of four threads.
 static WORKERS: [PassNo; 4] = [PassNo(4), PassNo(13), PassNo(22), PassNo(31)];
-
-// The passes look and call at once, each at a page of its own.
-fn work<R: Threads + Wait + Sync>(rt: &R, server: &Server, passes: &mut Vec<Pass>) -> u64
-    requires { ArePassesOf server.now passes.old.items }
-    ensures { ArePassesOf server.now passes.new.items }
-{
-    crowd(rt, server, None, passes, THREADS, &Task::Halves, COUNT)
-}
 
 // Whether the record is the pass's call, as its operation of this number.
 fn is_call(record: &Record, pass: PassNo, number: u32) -> bool {
@@ -63,25 +51,25 @@ fn are_of_four(records: &[Record]) -> bool {
         && WORKERS.iter().all(|pass| has_calls(records, *pass))
 }
 
-// Whether a server ends with them.
-fn ends(closed: Result<Core, CloseError>) -> bool {
-    match closed {
-        Ok(core) => are_of_four(core.records()),
-        Err(_) => false,
+// Whether the passes look and call at once, each at a page of its own, and the server ends with these calls.
+fn happens<R: Threads + Wait + Sync, W: Whole>(rt: &R, mut server: W) -> bool {
+    let passed = server.crowd(rt, None, THREADS, &Task::Halves, COUNT);
+    match server.ended() {
+        Some(core) => {
+            passed == u64::from(THREADS) * u64::from(COUNT) && are_of_four(core.records())
+        }
+        None => false,
     }
 }
 
-fn happens<R: Threads + Wait + Sync>(rt: &R, global: Global) -> bool {
+fn happens_to_new<R: Threads + Wait + Sync>(rt: &R, global: Global) -> bool {
     match ready(rt, global, THREADS, LANES, 1) {
-        Some((server, _key, mut passes)) => {
-            let passed = work(rt, &server, &mut passes);
-            passed == u64::from(THREADS) * u64::from(COUNT) && ends(closed(server, passes))
-        }
+        Some(server) => happens(rt, server),
         None => false,
     }
 }
 
 #[test]
 fn four_passes_make_each_record_once(rt: HostRuntime) {
-    assert!(rt; happens(&rt, rt.alloc()));
+    assert!(rt; happens_to_new(&rt, rt.alloc()));
 }

@@ -11,13 +11,13 @@
 //! each other they are the same for any number of threads.
 
 ghost use Rattle.std.specs.Prelude.{◌<◌};
-ghost use Rattle.shared_iommufd.specs.Ports.{IsKeyOf};
-ghost use Rattle.shared_iommufd.specs.Servers.{ArePassesOf};
 
 use crate::mapped::ready;
-use crate::opened::closed;
-use crate::work::{Task, crowd, port_reads};
-use shared_iommufd::{Core, Pass, PortKey, Server};
+use crate::ports::attaches;
+use crate::served::{Device, Whole};
+use crate::work::{PAGES, Task, va_of};
+use iofd_words::Iova;
+use shared_iommufd::Core;
 use std::alloc::Global;
 use std::sync::{RwLock, Wait};
 use std::thread::Threads;
@@ -56,38 +56,70 @@ const TRIES: u32 = 5;
 const LANES: u16 = 4;
 
 // The core of such a server, under std's lock.
-fn plain_core<R: Wait>(rt: &R, global: Global) -> Option<RwLock<Core>> {
-    let (server, _key, passes) = ready(rt, global, 1, LANES, 1)?;
-    match closed(server, passes) {
-        Ok(core) => Some(RwLock::new(core)),
-        Err(_) => None,
+fn plain_core<W: Whole>(server: W) -> Option<RwLock<Core>> {
+    match server.ended() {
+        Some(core) => Some(RwLock::new(core)),
+        None => None,
     }
 }
 
-// How long the operations take, where all of them pass.
-fn timed<R: Threads + Wait + Sync + Clock>(
+// How many of a device's reads pass, of 64 bytes of each page in turn; and the device.
+fn reads<D: Device>(mut device: D, reopens: bool, count: u32) -> (D, u64) {
+    let mut passed = 0u64;
+    for number in 0..count {
+        if reopens {
+            device = device.reopened();
+        }
+        let iova = Iova(va_of(number % PAGES));
+        let read = device.read(iova, &mut [0; 64]);
+        passed = passed.wrapping_add(u64::from(read.is_ok()));
+    }
+    (device, passed)
+}
+
+// How many operations pass at this server; and the server.
+fn made<R: Threads + Wait + Sync, S: Device + Whole>(
     rt: &R,
-    server: &Server,
-    key: PortKey,
-    passes: &mut Vec<Pass>,
+    mut server: S,
     core: &RwLock<Core>,
     row: &Row,
     threads: u8,
     count: u32,
-) -> Option<Duration>
-    requires { IsKeyOf server.now key × ArePassesOf server.now passes.old.items }
-{
-    let (_, place, task) = row;
-    let start = Instant::now(rt).ok()?;
-    let passed = match place {
-        Place::Port(_) => port_reads(rt, server, key, passes, false, count),
-        Place::Reopened => port_reads(rt, server, key, passes, true, count),
-        Place::Lanes => crowd(rt, server, None, passes, threads, task, count),
-        Place::Plain => crowd(rt, server, Some(core), passes, threads, task, count),
+) -> (S, u64) {
+    let plain = match row.1 {
+        Place::Port(_) => return reads(server, false, count),
+        Place::Reopened => return reads(server, true, count),
+        Place::Lanes => None,
+        Place::Plain => Some(core),
     };
-    let time = start.elapsed(rt).ok()?;
+    let passed = server.crowd(rt, plain, threads, &row.2, count);
+    (server, passed)
+}
+
+// How long it is since then.
+fn elapsed<R: Clock>(rt: &R, start: io::Result<Instant>) -> Option<Duration> {
+    match start {
+        Ok(start) => start.elapsed(rt).ok(),
+        Err(_) => None,
+    }
+}
+
+// How long the operations take at this server, where all of them pass.
+fn timed<R: Threads + Wait + Sync + Clock, S: Device + Whole>(
+    rt: &R,
+    mut server: S,
+    core: &RwLock<Core>,
+    row: &Row,
+    threads: u8,
+    count: u32,
+) -> Option<Duration> {
+    let _attached = attaches(&mut server);
+    let start = Instant::now(rt);
+    let (server, passed) = made(rt, server, core, row, threads, count);
+    let time = elapsed(rt, start);
+    let _core = server.ended();
     if passed == u64::from(threads) * u64::from(count) {
-        Some(time)
+        time
     } else {
         None
     }
@@ -105,9 +137,9 @@ fn time<R: Threads + Wait + Sync + Clock>(
         Place::Port(keeps) => keeps,
         _ => 64,
     };
-    let core = plain_core(rt, global)?;
-    let (server, key, mut passes) = ready(rt, global, threads, LANES, keeps)?;
-    timed(rt, &server, key, &mut passes, &core, row, threads, count)
+    let core = plain_core(ready(rt, global, 1, LANES, 1)?)?;
+    let server = ready(rt, global, threads, LANES, keeps)?;
+    timed(rt, server, &core, row, threads, count)
 }
 
 // How many operations there are. A call makes a record, which stays, so of calls there are fewer.

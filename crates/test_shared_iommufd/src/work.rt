@@ -1,12 +1,10 @@
-//! What is timed: a port's reads, and threads that look and call at once.
+//! Threads that look and call at once.
 
-ghost use Rattle.shared_iommufd.specs.Ports.{IsKeyOf, IsPortOf};
 ghost use Rattle.shared_iommufd.specs.Servers.{ArePassesOf, IsPassOf};
 
-use crate::opened::last_pass;
-use crate::ports::{attaches, is_answered, reopened};
-use iofd_words::{Act, Answer, Burst, Event, Iova, PassNo, Query, Reply, UserNo};
-use shared_iommufd::{Core, Pass, Port, PortKey, Server};
+use crate::ports::is_answered;
+use iofd_words::{Act, Answer, Burst, Event, PassNo, Query, Reply, UserNo};
+use shared_iommufd::{Core, Pass, Server};
 use std::sync::atomic::{AtomicU64, Ordering};
 use std::sync::{RwLock, Wait};
 use std::thread::{Threads, for_each_mut};
@@ -173,40 +171,4 @@ pub fn crowd<R: Threads + Wait + Sync>(
         },
     );
     passed.load(Ordering::SeqCst)
-}
-
-// How many of the port's reads pass, of 64 bytes of each page in turn, once the device is attached.
-fn reads<R: Wait>(rt: &R, server: &Server, mut port: Port, reopens: bool, count: u32) -> u64
-    requires { IsPortOf server.now port }
-{
-    let mut passed = 0u64;
-    if !attaches(rt, server, &mut port) {
-        return passed;
-    }
-    for number in 0..count {
-        if reopens {
-            port = reopened(server, port);
-        }
-        let iova = Iova(va_of(number % PAGES));
-        let read = port.read(rt, server, iova, &mut [0; 64]);
-        passed = passed.wrapping_add(u64::from(read.is_ok()));
-    }
-    passed
-}
-
-/// The same, by the port of the last pass.
-pub fn port_reads<R: Wait>(
-    rt: &R,
-    server: &Server,
-    key: PortKey,
-    passes: &mut Vec<Pass>,
-    reopens: bool,
-    count: u32,
-) -> u64
-    requires { IsKeyOf server.now key × ArePassesOf server.now passes.old.items }
-{
-    match last_pass(server, passes) {
-        Some(pass) => reads(rt, server, server.port(key, pass), reopens, count),
-        None => 0,
-    }
 }

@@ -6,5 +6,5 @@ use Rattle.test_shared_iommufd.proofs.opened.put_last.Goals as goal
 pub returns : goal.returns
 returns c =
     let server = c.args.server.now in
-    subst (ArePassesOf server) (sym c.push.ensures.items)
-    (put (IsPassOf server) c.args.passes.now.items c.args.pass (is_ok c.push.result) c.requires.0 c.requires.1)
+    subst (ArePassesOf server) (sym c.push-put.ensures.items)
+    (put (IsPassOf server) c.args.passes.now.items c.args.pass (is_ok c.push-put.result) c.requires.0 c.requires.1)
