@@ -1,14 +1,16 @@
 -- Rows as C has them: what a loop over them has put, or listed, and one more.
-use Rattle.std.proofs.Common.{◌≡◌, ◌∙◌, ◌+◌, ◌<◌, ◌≤◌, ℕ, List, [], ◌∷◌, ◌++◌, ap, append_assoc, arith, drop, get_or}
-use Rattle.std.proofs.Common.{inl, inr, length, map, min, sym, take}
+use Rattle.std.proofs.Common.{◌≡◌, ◌==◌, ◌∙◌, ◌+◌, ◌<◌, ◌≤◌, ℕ, List, [], ◌∷◌, ◌++◌, ap, append_assoc, arith, drop}
+use Rattle.std.proofs.Common.{Bool, append-nil, cond, false, get_or, inl, inr, length, map, min, sym, take, true}
 use Rattle.std.proofs.Math.ListN.{drop_of_length-le, set}
 use Rattle.std.proofs.Math.Seq.{set-append_seam}
-use Rattle.std.proofs.lemmas.Bool.{cases_lt}
+use Rattle.std.proofs.lemmas.Bool.{cases_lt, eq-eqb, ne_eqb}
 use Rattle.std.proofs.lemmas.List.{drop_more, length-map, length-take-le, map-append, map_more, take-map, take_all}
 use Rattle.std.proofs.lemmas.List.{take_min, take_more}
+use Rattle.std.proofs.lemmas.List.Elements.{filter_more}
 use Rattle.std.specs.List.{enumerate_from}
+use Rattle.iofd_words.specs.Bounds.{Bounds}
 use Rattle.iofd_words.specs.Settings.{DeviceSettings}
-use Rattle.iommufd_c.specs.Configured.{device_settings, devices_of_rows, reserved_for}
+use Rattle.iommufd_c.specs.Configured.{device_settings, devices_of_rows, reserved_for, rows_for, span_of}
 use Rattle.iommufd_c.specs.Exports.{over}
 use Rattle.iommufd_c.specs.declared.configuring.DeviceRow.{DeviceRow}
 use Rattle.iommufd_c.specs.declared.reserving.ReservedRow.{ReservedRow}
@@ -74,6 +76,31 @@ module _ {X : Type 0} where
       ap (enumerate_from 1) (take_more xs i d here)
       ∙ (enumerate_from-append 1 (take i xs) (get_or xs i d ∷ [])
       ∙ ap (λ (n : ℕ). enumerate_from 1 (take i xs) ++ (n, get_or xs i d) ∷ []) count)
+
+-- the spans of one row more
+module _ (rows : List ReservedRow) (device place : ℕ) (d : ReservedRow) (here : place < length rows) where
+  abbrev row : ReservedRow
+  row = get_or rows place d
+
+  more : (b : Bool) → (row.device == device) ≡ b → reserved_for (take (place + 1) rows) device
+      ≡ map span_of (rows_for (take place rows) device ++ cond b (row ∷ []) [])
+  more b is = ap (map span_of) (filter_more (λ (r : ReservedRow). r.device == device) rows place d here
+      ∙ (λ j. rows_for (take place rows) device ++ cond (is j) (row ∷ []) []))
+
+  -- which names the device
+  pub one_span_more : (spans : List Bounds) → spans ≡ reserved_for (take place rows) device → row.device ≡ device
+      → spans ++ span_of row ∷ [] ≡ reserved_for (take (place + 1) rows) device
+  one_span_more spans is named =
+      ap (λ (l : List Bounds). l ++ span_of row ∷ []) is
+      ∙ (sym (map-append span_of (rows_for (take place rows) device) (row ∷ []))
+      ∙ sym (more true (eq-eqb row.device device named)))
+
+  -- or doesn't
+  pub no_span_more : (row.device ≡ device → ⊥)
+      → reserved_for (take place rows) device ≡ reserved_for (take (place + 1) rows) device
+  no_span_more other =
+      ap (map span_of) (sym (append-nil (rows_for (take place rows) device)))
+      ∙ sym (more false (ne_eqb row.device device other))
 
 -- the device of one row more
 pub device_more : (reserved : List ReservedRow) (rows : List DeviceRow) (devices : List DeviceSettings) (place : ℕ)

@@ -10,7 +10,7 @@ use std::alloc::Global;
 
 /// A device of a configuration (`struct defnulk_device`).
 #[repr(C)]
-#[derive(Clone, Copy, PartialEq, Eq, Debug)]
+#[derive(Clone, Copy)]
 pub struct DeviceRow {
     /// The id by which the IOMMU knows it.
     pub source: u16,

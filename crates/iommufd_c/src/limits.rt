@@ -18,29 +18,50 @@ fn is_between(least: usize, most: usize, number: usize) -> bool
     least <= number && number <= most
 }
 
-// Whether each row's width is one that there is.
+// Whether the row's width is one that there is.
+fn is_row(row: &DeviceRow) -> bool
+    ensures { result ≡ is_row row.now }
+{
+    row.width == 39 || row.width == 48 || row.width == 57
+}
+
+// Loops are cheaper to prove here than closures.
 fn are_device_rows(rows: &[DeviceRow]) -> bool
     ensures { result ≡ list_all is_row rows.now }
 {
-    rows.iter().all(|row| row.width == 39 || row.width == 48 || row.width == 57)
+    let mut all = true;
+    for row in rows {
+        all &= is_row(row);
+    }
+    all
 }
 
-// Whether each row is a span of one of so many devices.
+// Whether the row is a span of one of so many devices.
+fn is_reserved_row(row: &ReservedRow, devices: usize) -> bool
+    ensures { result ≡ is_reserved_row devices row.now }
+{
+    is_between(1, devices, usize::from(row.device)) && row.first <= row.last
+}
+
 fn are_reserved_rows(rows: &[ReservedRow], devices: usize) -> bool
     ensures { result ≡ list_all (is_reserved_row devices) rows.now }
 {
-    rows.iter().all(|row| {
-        row.device >= 1 && usize::from(row.device) <= devices && row.first <= row.last
-    })
+    let mut all = true;
+    for row in rows {
+        all &= is_reserved_row(row, devices);
+    }
+    all
 }
 
 // Whether each user is one of so many.
 fn are_users(users: &[u16], count: usize) -> bool
     ensures { result ≡ list_all (is_between 1 count) users.now }
 {
-    users
-        .iter()
-        .all(|user| *user >= 1 && usize::from(*user) <= count)
+    let mut all = true;
+    for user in users {
+        all &= is_between(1, count, usize::from(*user));
+    }
+    all
 }
 
 // Whether the row's span may be reserved: it is of whole pages.
@@ -50,30 +71,20 @@ fn is_reserved_span(row: &ReservedRow) -> bool
     row.first < row.last && span_of(row).is_whole_pages()
 }
 
-// How many spans the rows reserve for the device of this number.
-fn count_of(rows: &[ReservedRow], device: usize) -> usize
-    ensures { result ≡ length (rows_for rows.now device) }
-{
-    rows.iter()
-        .filter(|row| usize::from(row.device) == device)
-        .count()
-}
-
-// Whether each of them may be reserved.
-fn are_reserved_spans(rows: &[ReservedRow], device: usize) -> bool
-    ensures { result ≡ list_all (λ row. is_reserved_span (span_of row)) (rows_for rows.now device) }
-{
-    rows.iter()
-        .filter(|row| usize::from(row.device) == device)
-        .all(|row| is_reserved_span(row))
-}
-
 // Whether the device of this number has as many reserved spans as it may have, each of whole pages.
 fn is_device_in_limits(reserved: &[ReservedRow], device: usize) -> bool
     ensures { result ≡ (nat_le (length (rows_for reserved.now device)) 16
         && list_all (λ row. is_reserved_span (span_of row)) (rows_for reserved.now device)) }
 {
-    count_of(reserved, device) <= 16 && are_reserved_spans(reserved, device)
+    let mut count: usize = 0;
+    let mut whole = true;
+    for row in reserved {
+        if usize::from(row.device) == device {
+            count += 1;
+            whole &= is_reserved_span(row);
+        }
+    }
+    count <= 16 && whole
 }
 
 // Whether each device of the rows is within its limits.

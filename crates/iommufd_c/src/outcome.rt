@@ -9,7 +9,7 @@ use shared_iommufd::{NotNow, PortCause, Stamp, TryError};
 
 /// What a call tells beside its status (`struct defnulk_outcome`).
 #[repr(C)]
-#[derive(Clone, Copy, PartialEq, Eq, Debug)]
+#[derive(Clone, Copy)]
 pub struct Outcome {
     /// The place of the last record that it made, among all records, if it made one.
     pub at: u64,

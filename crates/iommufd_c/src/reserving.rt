@@ -8,7 +8,7 @@ use std::alloc::Global;
 
 /// A span that a device of a configuration reserves (`struct defnulk_reserved`).
 #[repr(C)]
-#[derive(Clone, Copy, PartialEq, Eq, Debug)]
+#[derive(Clone, Copy)]
 pub struct ReservedRow {
     /// The first address.
     pub first: u64,

@@ -7,7 +7,7 @@ use iofd_words::Span;
 
 /// A span of addresses (`struct defnulk_span`).
 #[repr(C)]
-#[derive(Clone, Copy, PartialEq, Eq, Debug)]
+#[derive(Clone, Copy)]
 pub struct SpanRow {
     /// The first address.
     pub first: u64,

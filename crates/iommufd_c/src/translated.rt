@@ -8,7 +8,7 @@ use shared_iommufd::NotNow;
 
 /// What a page is translated to (`struct defnulk_translation`).
 #[repr(C)]
-#[derive(Clone, Copy, PartialEq, Eq, Debug)]
+#[derive(Clone, Copy)]
 pub struct TranslationRow {
     /// The number of the frame.
     pub frame: u32,
