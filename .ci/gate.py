@@ -1,6 +1,6 @@
 #!/usr/bin/env python3
-"""Is `rt ci`, with each crate's stamp worked out once, two crates checked by several processors, edits tried at the
-functions that they name, and the static library built; where the kit's rt is made otherwise, just `rt ci`.
+"""Is `rt ci`, with each crate's stamp worked out once, the lowest crate checked by several processors, edits tried at
+the functions that they name, and the static library built; where the kit's rt is made otherwise, just `rt ci`.
 
 To be run at the top of the repository.
 """
@@ -18,9 +18,9 @@ sys.dont_write_bytecode = True
 import kit
 
 
-# Beside these hardly anything can be proved, so that other lanes would be idle: the lowest crate, on which all others
-# stand, and the server for threads, the last long one on the longest chain. Each with its most jobs, by memory.
-ALONE = {"iofd_words": 4, "shared_iommufd": 3}
+# Beside the lowest crate, on which all others stand, nothing can be proved, so that other lanes would be idle: its most
+# jobs, by memory.
+ALONE = {"iofd_words": 4}
 
 
 def checks_some_by_several_lanes(rt):
