@@ -15,10 +15,10 @@ void *__wrap_realloc(void *block, size_t size);
 void __wrap_free(void *block);
 
 /* The first growth that is refused, and the last. */
-static uint64_t first_refused, last_refused;
-static uint64_t watched_so_far;
-static int is_watched, was_refused;
-static size_t blocks;
+static __thread uint64_t first_refused, last_refused;
+static __thread uint64_t watched_so_far;
+static __thread int is_watched, was_refused;
+static __thread size_t blocks;
 
 static void count_anew(uint64_t first, uint64_t last) {
     first_refused = first;
