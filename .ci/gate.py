@@ -5,6 +5,7 @@ the functions that they name, and the static library built; where the kit's rt i
 To be run at the top of the repository.
 """
 import contextlib
+import copy
 import hashlib
 import os
 import re
@@ -47,6 +48,16 @@ def functions_of(edit):
         return [line.removeprefix("# only:").strip() for line in lines if line.startswith("# only:")]
 
 
+def as_library(crate):
+    """The crate, checked as one on which others may stand.
+
+    Half of a static library's check is what it links; of a function and its contract nothing is asked there.
+    """
+    library = copy.copy(crate)
+    library.is_static = False
+    return library
+
+
 def tries_edits_at_their_functions(rt):
     """Has each edit that names functions tried by a check of these alone.
 
@@ -60,7 +71,7 @@ def tries_edits_at_their_functions(rt):
     def must_fail(crate, edit, flags, kept=None):
         only = [word for path in functions_of(edit) for word in ("--only", path)]
         if only:
-            tried = by_whole(crate, edit, [*flags, *only], kept)
+            tried = by_whole(as_library(crate), edit, [*flags, *only], kept)
             if tried[0] == rt.REFUSED:
                 return tried
         return by_whole(crate, edit, flags, kept)

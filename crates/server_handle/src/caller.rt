@@ -9,10 +9,8 @@ ghost use Rattle.server_handle.specs.Given.{AreKeysOf};
 use crate::client::{Client, boxed, put};
 use crate::device::{Device, MARGIN};
 use crate::error::GiveError;
-use iofd_words::{Act, Answer, CallError, Config, Event, FileNo, NoMemory, ObjId, Query, Span};
-use shared_iommufd::{
-    ConfigError, IoctlAnswer, JournalError, NotNow, Pass, PortKey, Server, Stamp, TryError,
-};
+use iofd_words::Config;
+use shared_iommufd::{ConfigError, Pass, PortKey, Server};
 use std::alloc::Global;
 use std::sync::Arc;
 
@@ -73,11 +71,9 @@ fn last_key(server: &Arc<Server, Global>, keys: &mut Vec<PortKey>) -> PortKey
 }
 
 impl Caller {
-    ghost use Rattle.std.specs.Prelude.{IfErr, IfOk, IfSome, false};
-    ghost use Rattle.guarded_core.specs.OfPort.{event_of_port, query_of_port};
+    ghost use Rattle.std.specs.Prelude.{IfErr, IfOk, IfSome};
     ghost use Rattle.shared_iommufd.specs.Limits.{IsRefusedFor};
     ghost use Rattle.server_handle.specs.Callers.{IsFirst};
-    ghost use Rattle.server_handle.specs.Calls.{Calls, Looks, Serves, TellsJournal, TellsNotices};
     ghost use Rattle.server_handle.specs.Handles.{GivesPort, GivesShare};
 
     /// Opens a server with this configuration. Its first caller has the last of its passes, all others to give, and the
@@ -172,48 +168,5 @@ impl Caller {
         ensures { result ≡ length self.now.keys.items }
     {
         self.keys.len()
-    }
-
-    /// Applies an event, as `Server::try_call` does. One that only a port makes isn't allowed.
-    pub fn call(&mut self, event: Event) -> Result<Stamp, TryError<NoMemory>>
-        requires { event_of_port event ≡ false }
-        ensures { Calls event self.old result self.new }
-    {
-        let act = Act { event, via: None };
-        self.server.try_call(&mut self.pass, &act)
-    }
-
-    /// Answers a question, as `Server::try_look` does. One that only a port asks isn't allowed.
-    pub fn look(&mut self, query: &Query) -> Result<Answer, NotNow>
-        requires { query_of_port query.now ≡ false }
-        ensures { Looks query.now self.old result self.new }
-    {
-        self.server.try_look(&mut self.pass, query)
-    }
-
-    /// Tells the notices of an access object, as `Server::try_notices` does.
-    pub fn notices(&mut self, file: FileNo, access: ObjId) -> Result<Vec<Span>, TryError<CallError>>
-        ensures { TellsNotices file access self.old result self.new }
-    {
-        self.server.try_notices(&mut self.pass, file, access)
-    }
-
-    /// Tells the journal, as `Server::try_journal` does.
-    pub fn journal(&mut self) -> Result<Vec<u8>, TryError<JournalError>>
-        ensures { TellsJournal self.old result self.new }
-    {
-        self.server.try_journal(&mut self.pass)
-    }
-
-    /// Carries out a call of ioctl, as `Server::try_ioctl` does.
-    pub fn ioctl(
-        &mut self,
-        file: FileNo,
-        number: u32,
-        bytes: &[u8],
-    ) -> Result<IoctlAnswer, TryError<NoMemory>>
-        ensures { Serves file number bytes.now self.old result self.new }
-    {
-        self.server.try_ioctl(&mut self.pass, file, number, bytes)
     }
 }

@@ -6,8 +6,10 @@ ghost use Rattle.server_handle.specs.Callers.{IsFirst};
 ghost use Rattle.server_handle.specs.Handles.{HasCaller};
 
 use crate::caller::Caller;
+use crate::caller_calls::{Call, GivePort, Ioctl, Journal, Look, Notices, Share};
 use crate::client::{Client, boxed};
 use crate::device::Access;
+use crate::device_calls::{Read, TakeTurn, Translate, Write};
 use crate::error::{GiveError, OpenError};
 use crate::handle::Handle;
 use crate::turn::Turn;
@@ -105,17 +107,7 @@ impl Handle {
     fn give_share(&mut self, alloc: Global) -> Option<Result<Box<Client>, GiveError>>
         ensures { OnCaller self.old.client result self.new.client (λ c given d. GivesShare c d given) }
     {
-        match self.take(alloc) {
-            Some(mut client) => {
-                let given = match &mut *client {
-                    Client::Caller(caller) => Some(caller.share(alloc)),
-                    Client::Device(_) | Client::Vacant => None,
-                };
-                *self = Handle::of(client);
-                given
-            }
-            None => None,
-        }
+        self.of_caller(alloc, Share { alloc })
     }
 
     // What a caller gives to a port, and the number of the device, if there is one.
@@ -123,56 +115,29 @@ impl Handle {
         ensures { OnCaller self.old.client result self.new.client (λ c given d.
             GivesPort c d given.1 × (given.0 ≡ length c.keys.items)) }
     {
-        match self.take(alloc) {
-            Some(mut client) => {
-                let given = match &mut *client {
-                    Client::Caller(caller) => Some((caller.keys_left(), caller.port(alloc))),
-                    Client::Device(_) | Client::Vacant => None,
-                };
-                *self = Handle::of(client);
-                given
-            }
-            None => None,
-        }
+        self.of_caller(alloc, GivePort { alloc })
     }
 
-    /// Applies an event by a caller. See `Caller::call`. None where the handle is no caller's.
+    /// Applies an event by a caller, as `Server::try_call` does. One that only a port makes isn't allowed. None where
+    /// the handle is no caller's.
     pub fn call(&mut self, alloc: Global, event: Event) -> Option<Result<Stamp, TryError<NoMemory>>>
         requires { event_of_port event ≡ false }
         ensures { OnCaller self.old.client result self.new.client (Calls event) }
     {
-        match self.take(alloc) {
-            Some(mut client) => {
-                let told = match &mut *client {
-                    Client::Caller(caller) => Some(caller.call(event)),
-                    Client::Device(_) | Client::Vacant => None,
-                };
-                *self = Handle::of(client);
-                told
-            }
-            None => None,
-        }
+        self.of_caller(alloc, Call { event })
     }
 
-    /// Answers a question of a caller. See `Caller::look`. None where the handle is no caller's.
+    /// Answers a question of a caller, as `Server::try_look` does. One that only a port asks isn't allowed. None where
+    /// the handle is no caller's.
     pub fn look(&mut self, alloc: Global, query: &Query) -> Option<Result<Answer, NotNow>>
         requires { query_of_port query.now ≡ false }
         ensures { OnCaller self.old.client result self.new.client (Looks query.now) }
     {
-        match self.take(alloc) {
-            Some(mut client) => {
-                let told = match &mut *client {
-                    Client::Caller(caller) => Some(caller.look(query)),
-                    Client::Device(_) | Client::Vacant => None,
-                };
-                *self = Handle::of(client);
-                told
-            }
-            None => None,
-        }
+        self.of_caller(alloc, Look { query })
     }
 
-    /// Tells the notices of an access object to a caller. See `Caller::notices`. None where the handle is no caller's.
+    /// Tells the notices of an access object to a caller, as `Server::try_notices` does. None where the handle is no
+    /// caller's.
     pub fn notices(
         &mut self,
         alloc: Global,
@@ -181,37 +146,17 @@ impl Handle {
     ) -> Option<Result<Vec<Span>, TryError<CallError>>>
         ensures { OnCaller self.old.client result self.new.client (TellsNotices file access) }
     {
-        match self.take(alloc) {
-            Some(mut client) => {
-                let told = match &mut *client {
-                    Client::Caller(caller) => Some(caller.notices(file, access)),
-                    Client::Device(_) | Client::Vacant => None,
-                };
-                *self = Handle::of(client);
-                told
-            }
-            None => None,
-        }
+        self.of_caller(alloc, Notices { file, access })
     }
 
-    /// Tells the journal to a caller. See `Caller::journal`. None where the handle is no caller's.
+    /// Tells the journal to a caller, as `Server::try_journal` does. None where the handle is no caller's.
     pub fn journal(&mut self, alloc: Global) -> Option<Result<Vec<u8>, TryError<JournalError>>>
         ensures { OnCaller self.old.client result self.new.client TellsJournal }
     {
-        match self.take(alloc) {
-            Some(mut client) => {
-                let told = match &mut *client {
-                    Client::Caller(caller) => Some(caller.journal()),
-                    Client::Device(_) | Client::Vacant => None,
-                };
-                *self = Handle::of(client);
-                told
-            }
-            None => None,
-        }
+        self.of_caller(alloc, Journal)
     }
 
-    /// Carries out a caller's call of ioctl. See `Caller::ioctl`. None where the handle is no caller's.
+    /// Carries out a caller's call of ioctl, as `Server::try_ioctl` does. None where the handle is no caller's.
     pub fn ioctl(
         &mut self,
         alloc: Global,
@@ -221,73 +166,40 @@ impl Handle {
     ) -> Option<Result<IoctlAnswer, TryError<NoMemory>>>
         ensures { OnCaller self.old.client result self.new.client (Serves file number bytes.now) }
     {
-        match self.take(alloc) {
-            Some(mut client) => {
-                let told = match &mut *client {
-                    Client::Caller(caller) => Some(caller.ioctl(file, number, bytes)),
-                    Client::Device(_) | Client::Vacant => None,
-                };
-                *self = Handle::of(client);
-                told
-            }
-            None => None,
-        }
+        let call = Ioctl {
+            file,
+            number,
+            bytes,
+        };
+        self.of_caller(alloc, call)
     }
 
-    /// Takes a device's turn. See `Device::turn`. None where the handle is no port's.
+    /// Makes the record of a device's turn, as `Port::try_flush`, `try_attach` and `try_detach` do. Before, the port
+    /// forgets all pages. None where the handle is no port's.
     pub fn turn(&mut self, alloc: Global, turn: Turn) -> Option<Result<Stamp, TryError<NoMemory>>>
         ensures { OnDevice self.old.client result self.new.client (TakesTurn turn) }
     {
-        match self.take(alloc) {
-            Some(mut client) => {
-                let told = match &mut *client {
-                    Client::Device(device) => Some(device.turn(turn)),
-                    Client::Caller(_) | Client::Vacant => None,
-                };
-                *self = Handle::of(client);
-                told
-            }
-            None => None,
-        }
+        self.of_device(alloc, TakeTurn { turn }, &mut [])
     }
 
-    /// Reads bytes of a device's memory. See `Device::read`. None where the handle is no port's; then the buffer stays
-    /// as it was.
+    /// Reads bytes of a device's memory, as `Port::try_read` does. None where the handle is no port's; then the buffer
+    /// stays as it was.
     pub fn read(&mut self, alloc: Global, iova: Iova, buffer: &mut [u8]) -> Option<Access>
         ensures read { OnDevice self.old.client result self.new.client (ReadsBytes iova.0 buffer.old buffer.new) }
         ensures kept { IfNone result (buffer.new ≡ buffer.old) }
     {
-        match self.take(alloc) {
-            Some(mut client) => {
-                let access = match &mut *client {
-                    Client::Device(device) => Some(device.read(iova, buffer)),
-                    Client::Caller(_) | Client::Vacant => None,
-                };
-                *self = Handle::of(client);
-                access
-            }
-            None => None,
-        }
+        self.of_device(alloc, Read { iova }, buffer)
     }
 
-    /// Writes bytes into a device's memory. See `Device::write`. None where the handle is no port's.
+    /// Writes bytes into a device's memory, as `Port::try_write` does. None where the handle is no port's.
     pub fn write(&mut self, alloc: Global, iova: Iova, bytes: &[u8]) -> Option<Access>
         ensures { OnDevice self.old.client result self.new.client (WritesBytes iova.0 bytes.now) }
     {
-        match self.take(alloc) {
-            Some(mut client) => {
-                let access = match &mut *client {
-                    Client::Device(device) => Some(device.write(iova, bytes)),
-                    Client::Caller(_) | Client::Vacant => None,
-                };
-                *self = Handle::of(client);
-                access
-            }
-            None => None,
-        }
+        self.of_device(alloc, Write { iova, bytes }, &mut [])
     }
 
-    /// Tells what a page is translated to for a device. See `Device::translate`. None where the handle is no port's.
+    /// Tells what a page is translated to for a device, as `Port::try_translate` does. None where the handle is no
+    /// port's.
     pub fn translate(
         &mut self,
         alloc: Global,
@@ -296,17 +208,7 @@ impl Handle {
     ) -> Option<Result<Option<Translation>, NotNow>>
         ensures { OnDevice self.old.client result self.new.client (TranslatesPage iova.0 kind) }
     {
-        match self.take(alloc) {
-            Some(mut client) => {
-                let told = match &mut *client {
-                    Client::Device(device) => Some(device.translate(iova, kind)),
-                    Client::Caller(_) | Client::Vacant => None,
-                };
-                *self = Handle::of(client);
-                told
-            }
-            None => None,
-        }
+        self.of_device(alloc, Translate { iova, kind }, &mut [])
     }
 
     /// Closes the handle, and frees what it had; the server with its last handle. Answers whether it was open.

@@ -1,12 +1,9 @@
 //! A device's port, with its share of the server.
 
-ghost use Rattle.std.specs.Prelude.{◌≡◌};
 ghost use Rattle.std.specs.Arc.{arc_value};
 ghost use Rattle.shared_iommufd.specs.Ports.{IsPortOf};
 
-use crate::turn::Turn;
-use iofd_words::{AccessKind, Iova, NoMemory, Translation};
-use shared_iommufd::{NotNow, Port, PortCause, PortError, Server, Stamp, TryError};
+use shared_iommufd::{Port, PortCause, PortError, Server, TryError};
 use std::alloc::Global;
 use std::sync::Arc;
 
@@ -43,44 +40,4 @@ impl Drop for Device {
 pub struct Access {
     pub ended: Result<(), PortError<TryError<PortCause>>>,
     pub last: Option<u64>,
-}
-
-impl Device {
-    ghost use Rattle.server_handle.specs.Calls.{ReadsBytes, TakesTurn, TranslatesPage, WritesBytes};
-
-    /// Reads bytes of the device's memory, as `Port::try_read` does.
-    pub fn read(&mut self, iova: Iova, buffer: &mut [u8]) -> Access
-        ensures { ReadsBytes iova.0 buffer.old buffer.new self.old result self.new }
-    {
-        let ended = self.port.try_read(&self.server, iova, buffer);
-        Access { ended, last: None }
-    }
-
-    /// Writes bytes into the device's memory, as `Port::try_write` does.
-    pub fn write(&mut self, iova: Iova, bytes: &[u8]) -> Access
-        ensures { WritesBytes iova.0 bytes.now self.old result self.new }
-    {
-        let ended = self.port.try_write(&self.server, iova, bytes);
-        let last = self.port.last();
-        Access { ended, last }
-    }
-
-    /// Tells what a page is translated to for the device, as `Port::try_translate` does.
-    pub fn translate(&mut self, iova: Iova, kind: AccessKind) -> Result<Option<Translation>, NotNow>
-        ensures { TranslatesPage iova.0 kind self.old result self.new }
-    {
-        self.port.try_translate(&self.server, iova, kind)
-    }
-
-    /// Makes the record of a turn, as `Port::try_flush`, `try_attach` and `try_detach` do. Before, the port forgets all
-    /// pages.
-    pub fn turn(&mut self, turn: Turn) -> Result<Stamp, TryError<NoMemory>>
-        ensures { TakesTurn turn self.old result self.new }
-    {
-        match turn {
-            Turn::Flush => self.port.try_flush(&self.server),
-            Turn::Attach(pt_id) => self.port.try_attach(&self.server, pt_id),
-            Turn::Detach => self.port.try_detach(&self.server),
-        }
-    }
 }

@@ -2,10 +2,13 @@
 //! behind a handle that is one pointer. No call waits.
 #![tactic(auto)]
 
+mod asked;
 mod caller;
+mod caller_calls;
 mod calls;
 mod client;
 mod device;
+mod device_calls;
 mod error;
 mod handle;
 mod loose;
