@@ -3,7 +3,7 @@
 ghost use Rattle.std.specs.Prelude.{◌≡◌, IfErr, IfOk};
 ghost use Rattle.device_threads.specs.Workers.{AllBack, AllCanRun, HasRun, HaveRun, IsReady};
 
-use crate::beside::call_beside;
+use crate::beside::{Work, work_beside};
 use crate::gate::Gate;
 use crate::job::JobResult;
 use crate::memory::rooms_for;
@@ -13,6 +13,24 @@ use shared_iommufd::Server;
 use std::alloc::Global;
 use std::sync::Wait;
 use std::thread::Threads;
+
+// Has a worker do its jobs.
+#[derive(Drop)]
+struct AtWork<'a, R, G> {
+    rt: &'a R,
+    server: &'a Server,
+    gate: &'a G,
+}
+
+impl<'a, R: Wait, G: Gate> Work<Worker, Vec<JobResult>, Finished> for AtWork<'a, R, G> {
+    ghost may = { λ it worker room. IsReady it.server.now worker room };
+
+    ghost makes = { λ it worker room finished. HasRun it.server.now worker finished };
+
+    fn make(&self, worker: Worker, room: Vec<JobResult>) -> Finished {
+        work(self.rt, self.server, self.gate, worker, room)
+    }
+}
 
 /// Has each worker do its jobs, one after another, in a thread of its own; a worker for which no thread can be started
 /// does them in this one, once the others have been started. It returns when all have ended, and hands the ports back,
@@ -38,9 +56,6 @@ pub fn run<R: Threads + Wait + Sync, G: Gate + Sync>(
     let Ok((rooms, finished)) = rooms_for(alloc, &workers) else {
         return Err(NotStarted { workers });
     };
-    let does = move |worker: Worker, room: Vec<JobResult>| -> Finished
-        requires { IsReady server.now worker room }
-        ensures { HasRun server.entry.now worker result }
-    { work(rt, server, gate, worker, room) };
-    Ok(call_beside(rt, &does, workers, rooms, finished))
+    let at_work = AtWork { rt, server, gate };
+    Ok(work_beside(rt, &at_work, workers, rooms, finished))
 }

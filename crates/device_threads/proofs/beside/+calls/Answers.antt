@@ -17,7 +17,7 @@ join-came-requires-after_bounds g t c κs within =
     c.in-Some.first c.in-Some-pop.second some c.in-Some-pop.ensures.items c.requires.may in
     let longer = one_longer c.pop.new.self.items c.args.firsts.items c.in-Some.first some in
     let enough = c.requires.enough in
-    -- that R and F may be shared, and X, Y and Z sent
+    -- that R and W may be shared, and X, Y and Z sent
     let sent = c.requires-raw.1.1.1.1.1 in (
       off.1,
       (

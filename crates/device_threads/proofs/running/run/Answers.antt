@@ -5,8 +5,8 @@ use Rattle.device_threads.specs.Workers.{CanRun, HasRoom, HasRun, HaveRun}
 use Rattle.device_threads.proofs.Pairs.{pair_all, pair_map, pair_seconds}
 use Rattle.device_threads.proofs.running.run.Goals as goal
 
-pub call_beside-requires-clause-may : goal.call_beside-requires-clause-may
-call_beside-requires-clause-may g c κs within =
+pub work_beside-requires-clause-may : goal.work_beside-requires-clause-may
+work_beside-requires-clause-may g c κs within =
     let server = c.args.server.now in
     pair_all HasRoom (CanRun server) _ (λ worker room can has. record { can = can; room = has })
     c.args.workers.items c.in-Ok.rooms.items c.requires
@@ -15,12 +15,12 @@ call_beside-requires-clause-may g c κs within =
 pub returns : goal.returns
 returns g c =
     let server = c.args.server.now in
-    let ran : HaveRun server c.args.workers.items c.call_beside.result.items =
-    pair_map _ (HasRun server) (λ worker one came. came.1) c.args.workers.items c.call_beside.result.items
-    c.call_beside.ensures.came in
+    let ran : HaveRun server c.args.workers.items c.work_beside.result.items =
+    pair_map _ (HasRun server) (λ worker one came. came.1) c.args.workers.items c.work_beside.result.items
+    c.work_beside.ensures.came in
     record {
       run = ran;
       back = pair_seconds (HasRun server) (λ one. IsPortOf server one.port) (λ worker one has. has.owned)
-          c.args.workers.items c.call_beside.result.items ran;
+          c.args.workers.items c.work_beside.result.items ran;
       refused = tt;
     }
