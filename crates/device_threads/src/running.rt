@@ -53,9 +53,11 @@ pub fn run<R: Threads + Wait + Sync, G: Gate + Sync>(
     ensures back { IfOk result (λ finished. AllBack server.now finished.items) }
     ensures refused { IfErr result (λ back. back.workers ≡ workers) }
 {
-    let Ok((rooms, finished)) = rooms_for(alloc, &workers) else {
-        return Err(NotStarted { workers });
-    };
-    let at_work = AtWork { rt, server, gate };
-    Ok(work_beside(rt, &at_work, workers, rooms, finished))
+    match rooms_for(alloc, &workers) {
+        Ok((rooms, finished)) => {
+            let at_work = AtWork { rt, server, gate };
+            Ok(work_beside(rt, &at_work, workers, rooms, finished))
+        }
+        Err(_) => Err(NotStarted { workers }),
+    }
 }
