@@ -67,30 +67,30 @@ fn is_answered(task: Task, attached: bool, reply: Reply) -> bool {
 
 // Whether the outcome is lawful for the task as the device stands.
 fn is_lawful(state: State, task: Task, outcome: &Outcome) -> bool {
-    match outcome {
-        Outcome::Turn(Ok(reply)) => is_answered(task, state.attached, *reply),
-        Outcome::Write(ended) => task == Task::Write && ended.is_ok() == state.attached,
-        Outcome::Read { buffer, ended } if task == Task::Read => {
+    match (task, outcome) {
+        (_, Outcome::Turn(Ok(reply))) => is_answered(task, state.attached, *reply),
+        (Task::Write, Outcome::Write(ended)) => ended.is_ok() == state.attached,
+        (Task::Read, Outcome::Read { buffer, ended }) => {
             ended.is_ok() == state.attached
                 && (!state.attached || buffer.iter().all(|byte| *byte == state.byte))
         }
-        Outcome::Read { .. } => task == Task::Probe,
+        (Task::Probe, Outcome::Read { .. }) => true,
         _ => false,
     }
 }
 
 // How the device stands after the job.
 fn after(state: State, task: Task, number: u32, outcome: &Outcome) -> State {
-    match outcome {
-        Outcome::Turn(Ok(Reply::Id(_))) => State {
+    match (task, outcome) {
+        (Task::Attach, Outcome::Turn(Ok(Reply::Id(_)))) => State {
             attached: true,
             byte: state.byte,
         },
-        Outcome::Turn(Ok(Reply::Done)) if task == Task::Detach => State {
+        (Task::Detach, Outcome::Turn(Ok(Reply::Done))) => State {
             attached: false,
             byte: state.byte,
         },
-        Outcome::Write(Ok(())) => State {
+        (_, Outcome::Write(Ok(()))) => State {
             attached: state.attached,
             byte: byte_of(number),
         },

@@ -8,10 +8,16 @@ mod at_once;
 #[cfg(test)]
 mod checks;
 #[cfg(test)]
+mod gate;
+#[cfg(test)]
 mod meeting;
 #[cfg(test)]
-mod opened;
+mod prepared;
 #[cfg(test)]
 mod refused_growths;
 #[cfg(test)]
+mod site;
+#[cfg(test)]
 mod tasks;
+#[cfg(test)]
+mod test_site;

@@ -1,74 +1,51 @@
 //! Two devices are at work at once: each waits at its first job until the other has begun its own.
 
-use crate::opened::{config, server, workers};
-use device_threads::{Finished, Gate, run};
+use crate::gate::Meeting;
+use crate::prepared::config;
+use crate::site::Site;
+use crate::tasks::jobs;
+use crate::test_site::TestSite;
+use device_threads::JobResult;
 use iofd_words::DeviceNo;
 use std::alloc::Global;
 use std::sync::Wait;
-use std::sync::atomic::{AtomicU64, Ordering};
-use std::thread;
 use std::thread::Threads;
 
-// A turn is one look at the gate and then a yield.
-const TURNS: u32 = 10_000;
-
-// Holds each device's first job until two have begun, or so many turns have passed.
-#[derive(Drop)]
-struct Meeting {
-    begun: AtomicU64,
-    alone: AtomicU64,
-}
-
-impl Gate for Meeting {
-    fn enter(&self, _device: DeviceNo, job: u32) {
-        if job != 1 {
-            return;
-        }
-        self.begun.fetch_add(1, Ordering::SeqCst);
-        for _ in 0..TURNS {
-            if self.begun.load(Ordering::SeqCst) == 2 {
-                return;
-            }
-            thread::yield_now();
-        }
-        self.alone.fetch_add(1, Ordering::SeqCst);
-    }
-
-    fn leave(&self, _device: DeviceNo, _job: u32) {}
-}
-
-// Whether two workers came back, each with one result.
-fn are_two(finished: &[Finished]) -> bool {
-    match finished {
-        [one, other] => one.results.len() == 1 && other.results.len() == 1,
+// Whether two devices came back, each with one result.
+fn are_two(all: &[Vec<JobResult>]) -> bool {
+    match all {
+        [one, other] => one.len() == 1 && other.len() == 1,
         _ => false,
     }
 }
 
 // Whether they met.
-fn meet<R: Threads + Wait + Sync>(rt: &R, alloc: Global) -> bool {
-    let Some(config) = config(alloc, 2) else {
+fn meets<S: Site, R: Threads + Wait + Sync>(rt: &R, alloc: Global, mut site: S) -> bool {
+    site.equip(jobs(alloc, 1, DeviceNo(1), 1));
+    site.equip(jobs(alloc, 1, DeviceNo(2), 1));
+    let gate = Meeting::of(2);
+    let site = site.run(rt, alloc, &gate, 0);
+    match site.ended(alloc) {
+        Some((_core, all)) => are_two(&all) && gate.is_met(),
+        None => false,
+    }
+}
+
+fn meet<S: Site, R: Threads + Wait + Sync>(rt: &R, alloc: Global) -> bool {
+    let Some(config) = config(alloc, 3) else {
         return false;
     };
-    let Some((server, mut passes, mut keys)) = server(alloc, &config) else {
-        return false;
-    };
-    let workers = workers(alloc, &server, &mut keys, &mut passes, 1, 1);
-    let gate = Meeting {
-        begun: AtomicU64::new(0),
-        alone: AtomicU64::new(0),
-    };
-    match run(rt, alloc, &server, &gate, workers) {
-        Ok(finished) => are_two(&finished) && gate.alone.load(Ordering::SeqCst) == 0,
-        Err(_) => false,
+    match S::opened(alloc, &config) {
+        Some(site) => meets(rt, alloc, site),
+        None => false,
     }
 }
 
 // Whether they meet in one of some tries: on a machine that is busy with other work one thread may use up its turns
 // before the other has been started.
-fn meet_once<R: Threads + Wait + Sync>(rt: &R, alloc: Global) -> bool {
+fn meet_once<S: Site, R: Threads + Wait + Sync>(rt: &R, alloc: Global) -> bool {
     for _ in 0..50u8 {
-        if meet(rt, alloc) {
+        if meet::<S, R>(rt, alloc) {
             return true;
         }
     }
@@ -77,5 +54,5 @@ fn meet_once<R: Threads + Wait + Sync>(rt: &R, alloc: Global) -> bool {
 
 #[test]
 fn two_devices_work_at_once(rt: HostRuntime) {
-    assert!(rt; meet_once(&rt, rt.alloc()));
+    assert!(rt; meet_once::<TestSite, _>(&rt, rt.alloc()));
 }

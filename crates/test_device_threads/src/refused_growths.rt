@@ -2,209 +2,140 @@
 //! starts nothing, or its job tells want of memory; it makes no record either way, and made again at once comes out as
 //! it has to. With ample memory each does so at once.
 
-ghost use Rattle.std.specs.Prelude.{IfSome};
-ghost use Rattle.shared_iommufd.specs.Ports.{IsPortOf};
-ghost use Rattle.shared_iommufd.specs.Servers.{IsPassOf};
-ghost use Rattle.device_threads.specs.Workers.{AllBack, AllCanRun};
-
-use crate::at_once::Open;
-use crate::opened::{add, config, last_key, last_pass, make_all, server};
+use crate::gate::Meeting;
+use crate::prepared::{config, prepare};
+use crate::site::Site;
 use crate::tasks::{Task, byte_of, job};
-use device_threads::{Finished, JobResult, Outcome, Worker, run};
-use iofd_words::{NoMemory, ObjId, Query, Reply};
-use shared_iommufd::{Pass, Port, PortCause, Server};
+use crate::test_site::TestSite;
+use device_threads::{JobResult, Outcome};
+use iofd_words::{DeviceNo, NoMemory, ObjId, Reply};
+use shared_iommufd::PortCause;
 use std::alloc::Global;
 use std::sync::Wait;
 use std::thread::Threads;
 
-// Growths are watched while a block of so many bytes is held.
-const WATCHED: usize = 54321;
-
 // The number of each job here: the byte that is written.
 const NUMBER: u32 = 0xb7;
 
+// Four records come before the jobs, and each job but the read makes one.
+const RECORDS: usize = 8;
+
 // What a run came to.
-#[derive(Clone, Copy, PartialEq, Eq)]
+#[derive(Clone, Copy)]
 enum End {
     Done,
     NoMemory,
     Other,
 }
 
-// What came of the job. The device is the file's object 2, behind the address space.
-fn end_of(task: Task, outcome: &Outcome) -> End {
-    let is_done = match outcome {
-        Outcome::Turn(Ok(Reply::Id(id))) => task == Task::Attach && *id == ObjId(3),
-        Outcome::Turn(Ok(Reply::Done)) => task == Task::Flush || task == Task::Detach,
-        Outcome::Write(Ok(())) => task == Task::Write,
-        Outcome::Read {
-            buffer,
-            ended: Ok(()),
-        } => task == Task::Read && buffer.iter().all(|byte| *byte == byte_of(NUMBER)),
-        Outcome::Turn(Err(NoMemory)) => return End::NoMemory,
-        Outcome::Write(Err(error)) if error.done == 0 => match error.cause {
-            PortCause::Memory(NoMemory) => return End::NoMemory,
-            _ => false,
-        },
+// Whether the job did what it had to. The device is the file's object 2, behind the address space.
+fn is_done(task: Task, outcome: &Outcome) -> bool {
+    match (task, outcome) {
+        (Task::Attach, Outcome::Turn(Ok(Reply::Id(id)))) => *id == ObjId(3),
+        (Task::Flush | Task::Detach, Outcome::Turn(Ok(Reply::Done))) => true,
+        (Task::Write, Outcome::Write(Ok(()))) => true,
+        (Task::Read, Outcome::Read { buffer, ended }) => {
+            ended.is_ok() && buffer.iter().all(|byte| *byte == byte_of(NUMBER))
+        }
         _ => false,
-    };
-    if is_done { End::Done } else { End::Other }
+    }
+}
+
+// Whether the job tells want of memory, and that it did nothing.
+fn is_refused(outcome: &Outcome) -> bool {
+    match outcome {
+        Outcome::Turn(Err(NoMemory)) => true,
+        Outcome::Write(Err(error)) => {
+            error.done == 0 && matches!(error.cause, PortCause::Memory(NoMemory))
+        }
+        _ => false,
+    }
 }
 
 fn end_of_one(task: Task, results: &[JobResult]) -> End {
     match results {
-        [result] => end_of(task, &result.outcome),
+        [result] if is_done(task, &result.outcome) => End::Done,
+        [result] if is_refused(&result.outcome) => End::NoMemory,
         _ => End::Other,
     }
 }
 
-// The port of the last worker, which was not started.
-fn not_started(server: &Server, mut workers: Vec<Worker>) -> Option<Port>
-    requires { AllCanRun server.now workers.items }
-    ensures { IfSome result (IsPortOf server.now) }
-{
-    let _ = server;
-    match workers.pop() {
-        Some(worker) => {
-            let Worker { port, jobs: _ } = worker;
-            Some(port)
-        }
-        None => None,
-    }
-}
-
-// The port of the last worker that came back, and its results.
-fn finished_last(server: &Server, mut finished: Vec<Finished>) -> Option<(Port, Vec<JobResult>)>
-    requires { AllBack server.now finished.items }
-    ensures { IfSome result (λ r. IsPortOf server.now r.0) }
-{
-    let _ = server;
-    match finished.pop() {
-        Some(one) => {
-            let Finished { port, results } = one;
-            Some((port, results))
-        }
-        None => None,
-    }
-}
-
-// A worker with this one job.
-fn only_worker(alloc: Global, server: &Server, port: Port, task: Task) -> Option<Vec<Worker>>
-    requires { IsPortOf server.now port }
-    ensures { IfSome result (λ workers. AllCanRun server.now workers.items) }
-{
-    let job = job(alloc, port.device(), task, NUMBER)?;
+// Gives the device this one job.
+fn give<S: Site>(alloc: Global, site: &mut S, task: Task) {
     let mut jobs = Vec::new(alloc);
-    if jobs.push(job).is_err() {
-        return None;
+    if let Some(job) = job(alloc, DeviceNo(1), task, NUMBER) {
+        let _put = jobs.push(job);
     }
-    let mut workers = Vec::new(alloc);
-    add(server, &mut workers, Worker { port, jobs });
-    Some(workers)
+    site.equip(jobs);
 }
 
-// One run, while growths are watched.
-fn attempt<R: Threads + Wait + Sync>(
+// What a run comes to. Where it starts nothing the device keeps its job.
+fn attempt<S: Site, R: Threads + Wait + Sync>(
     rt: &R,
     alloc: Global,
-    server: &Server,
-    port: Port,
+    site: S,
     task: Task,
-) -> Option<(Port, End)>
-    requires { IsPortOf server.now port }
-    ensures { IfSome result (λ r. IsPortOf server.now r.0) }
-{
-    let workers = only_worker(alloc, server, port, task)?;
-    let Ok(block) = Vec::<u8>::with_capacity(alloc, WATCHED) else {
-        return None;
+) -> (S, End) {
+    let site = site.run(rt, alloc, &Meeting::of(1), 0);
+    let end = match site.results() {
+        Some(results) => end_of_one(task, results),
+        None => End::NoMemory,
     };
-    let ran = run(rt, alloc, server, &Open, workers);
-    drop(block);
-    match ran {
-        Ok(finished) => {
-            let (port, results) = finished_last(server, finished)?;
-            let end = end_of_one(task, &results);
-            Some((port, end))
-        }
-        Err(back) => Some((not_started(server, back.workers)?, End::NoMemory)),
-    }
+    (site, end)
 }
 
-// How many records there are.
-fn count_records<R: Wait>(rt: &R, server: &Server, pass: &mut Pass) -> u64
-    requires { IsPassOf server.now pass.old }
-    ensures { IsPassOf server.now pass.new }
-{
-    let _answer = server.look(rt, pass, &Query::FreeFrames);
-    pass.seen()
-}
-
-// The port, once its device has done the task, at the second run if a growth was refused to the first.
-fn does<R: Threads + Wait + Sync>(
+// Whether the device does the task, at the second run if a growth was refused to the first.
+fn does<S: Site, R: Threads + Wait + Sync>(
     rt: &R,
     alloc: Global,
-    server: &Server,
-    pass: &mut Pass,
-    port: Port,
+    mut site: S,
     task: Task,
-) -> Option<Port>
-    requires { IsPortOf server.now port × IsPassOf server.now pass.old }
-    ensures port { IfSome result (IsPortOf server.now) }
-    ensures pass { IsPassOf server.now pass.new }
-{
-    let before = count_records(rt, server, pass);
-    let (port, end) = attempt(rt, alloc, server, port, task)?;
-    let after = count_records(rt, server, pass);
+) -> (S, bool) {
+    give(alloc, &mut site, task);
+    let (mut site, end) = attempt(rt, alloc, site, task);
     match end {
-        End::Done => Some(port),
-        End::NoMemory if after == before => match attempt(rt, alloc, server, port, task)? {
-            (port, End::Done) => Some(port),
-            _ => None,
-        },
-        _ => None,
+        End::Done => return (site, true),
+        End::Other => return (site, false),
+        End::NoMemory => {}
     }
+    if site.results().is_some() {
+        give(alloc, &mut site, task);
+    }
+    let (site, end) = attempt(rt, alloc, site, task);
+    (site, matches!(end, End::Done))
 }
 
 // Whether the device is attached, writes, reads its bytes, is flushed and detached.
-fn does_all<R: Threads + Wait + Sync>(
-    rt: &R,
-    alloc: Global,
-    server: &Server,
-    pass: &mut Pass,
-    port: Port,
-) -> Option<Port>
-    requires { IsPortOf server.now port × IsPassOf server.now pass.old }
-    ensures { IsPassOf server.now pass.new }
-{
-    let port = does(rt, alloc, server, pass, port, Task::Attach)?;
-    let port = does(rt, alloc, server, pass, port, Task::Write)?;
-    let port = does(rt, alloc, server, pass, port, Task::Read)?;
-    let port = does(rt, alloc, server, pass, port, Task::Flush)?;
-    does(rt, alloc, server, pass, port, Task::Detach)
+fn does_all<S: Site, R: Threads + Wait + Sync>(rt: &R, alloc: Global, site: S) -> (S, bool) {
+    let (site, attached) = does(rt, alloc, site, Task::Attach);
+    let (site, written) = does(rt, alloc, site, Task::Write);
+    let (site, read) = does(rt, alloc, site, Task::Read);
+    let (site, flushed) = does(rt, alloc, site, Task::Flush);
+    let (site, detached) = does(rt, alloc, site, Task::Detach);
+    (site, attached && written && read && flushed && detached)
 }
 
-fn holds<R: Threads + Wait + Sync>(rt: &R, alloc: Global) -> bool {
-    let Some(config) = config(alloc, 1) else {
+// Whether it does all that, and there is a record of each but the read, and none that a refused run has made.
+fn is_recorded<S: Site, R: Threads + Wait + Sync>(rt: &R, alloc: Global, mut site: S) -> bool {
+    let prepared = prepare(rt, &mut site, 1);
+    let (site, done) = does_all(rt, alloc, site);
+    match site.ended(alloc) {
+        Some((core, _all)) => prepared && done && core.records().len() == RECORDS,
+        None => false,
+    }
+}
+
+fn holds<S: Site, R: Threads + Wait + Sync>(rt: &R, alloc: Global) -> bool {
+    let Some(config) = config(alloc, 2) else {
         return false;
     };
-    let Some((server, mut passes, mut keys)) = server(alloc, &config) else {
-        return false;
-    };
-    match (
-        last_key(&server, &mut keys),
-        last_pass(&server, &mut passes),
-        last_pass(&server, &mut passes),
-    ) {
-        (Some(key), Some(own), Some(mut pass)) => {
-            let made = make_all(rt, &server, &mut pass, 1);
-            let port = server.port(key, own);
-            made && does_all(rt, alloc, &server, &mut pass, port).is_some()
-        }
-        _ => false,
+    match S::opened(alloc, &config) {
+        Some(site) => is_recorded(rt, alloc, site),
+        None => false,
     }
 }
 
 #[test]
 fn a_refused_growth_makes_no_record(rt: HostRuntime) {
-    assert!(rt; holds(&rt, rt.alloc()));
+    assert!(rt; holds::<TestSite, _>(&rt, rt.alloc()));
 }

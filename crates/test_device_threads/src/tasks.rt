@@ -1,9 +1,10 @@
-//! The jobs of the tests.
+//! The jobs of the tests, and what is done meanwhile.
 
-ghost use Rattle.std.specs.Prelude.{◌≤◌, length};
+ghost use Rattle.std.specs.Prelude.{◌≡◌, ◌≤◌, false, length, None};
+ghost use Rattle.guarded_core.specs.OfPort.{event_of_port};
 
 use device_threads::Job;
-use iofd_words::{DeviceNo, Iova, ObjId};
+use iofd_words::{Act, DeviceNo, Event, FileNo, Iova, MapFlags, MapRequest, ObjId, UnmapRequest};
 use std::alloc::Global;
 
 // The address space whose page 1 is always mapped, and page 2 at times.
@@ -12,7 +13,7 @@ pub(crate) const SPACE: ObjId = ObjId(1);
 const SOMETIMES: Iova = Iova(0x2000);
 
 // What a device does.
-#[derive(Clone, Copy, PartialEq, Eq)]
+#[derive(Clone, Copy)]
 pub(crate) enum Task {
     Attach,
     Detach,
@@ -96,4 +97,33 @@ pub(crate) fn jobs(alloc: Global, seed: u32, device: DeviceNo, count: u32) -> Ve
         }
     }
     jobs
+}
+
+/// The user's page, mapped there for reads and writes.
+pub fn mapping(iova: Iova) -> MapRequest {
+    MapRequest {
+        flags: MapFlags(7),
+        ioas: SPACE,
+        user_va: 0x10000,
+        length: 0x1000,
+        iova,
+    }
+}
+
+/// What is done meanwhile in this round: page 2 comes or goes.
+pub fn change(round: u32) -> Act
+    ensures event { event_of_port result.event ≡ false }
+    ensures via { result.via ≡ None }
+{
+    let event = if round % 2 == 0 {
+        Event::Map(FileNo(1), mapping(SOMETIMES))
+    } else {
+        let request = UnmapRequest {
+            ioas: SPACE,
+            iova: SOMETIMES,
+            length: 0x1000,
+        };
+        Event::Unmap(FileNo(1), request)
+    };
+    Act { event, via: None }
 }

@@ -1,5 +1,0 @@
-use Rattle.shared_iommufd.specs.Servers.{IsPassOf}
-use Rattle.test_device_threads.proofs.opened.make_all.Given as goal
-
-abbrev pub invariant-loop-step : goal.invariant-loop-step
-invariant-loop-step g l = IsPassOf l.server l.pass
