@@ -1,6 +1,6 @@
 //! Whether the results of a device's jobs are those that the journal explains.
 
-use crate::tasks::{Task, byte_of, own, task_at};
+use crate::tasks::{Task, are_all, byte_of, own, task_at};
 use device_threads::{JobResult, Outcome};
 use iofd_words::{Cause, DeviceNo, Event, Record, Refusal, Reply};
 
@@ -71,8 +71,7 @@ fn is_lawful(state: State, task: Task, outcome: &Outcome) -> bool {
         (_, Outcome::Turn(Ok(reply))) => is_answered(task, state.attached, *reply),
         (Task::Write, Outcome::Write(ended)) => ended.is_ok() == state.attached,
         (Task::Read, Outcome::Read { buffer, ended }) => {
-            ended.is_ok() == state.attached
-                && (!state.attached || buffer.iter().all(|byte| *byte == state.byte))
+            ended.is_ok() == state.attached && (!state.attached || are_all(buffer, state.byte))
         }
         (Task::Probe, Outcome::Read { .. }) => true,
         _ => false,

@@ -5,7 +5,7 @@
 use crate::gate::Meeting;
 use crate::prepared::{config, prepare};
 use crate::site::Site;
-use crate::tasks::{Task, byte_of, job};
+use crate::tasks::{Task, are_all, byte_of, job};
 use crate::test_site::TestSite;
 use device_threads::{JobResult, Outcome};
 use iofd_words::{DeviceNo, NoMemory, ObjId, Reply};
@@ -35,7 +35,7 @@ fn is_done(task: Task, outcome: &Outcome) -> bool {
         (Task::Flush | Task::Detach, Outcome::Turn(Ok(Reply::Done))) => true,
         (Task::Write, Outcome::Write(Ok(()))) => true,
         (Task::Read, Outcome::Read { buffer, ended }) => {
-            ended.is_ok() && buffer.iter().all(|byte| *byte == byte_of(NUMBER))
+            ended.is_ok() && are_all(buffer, byte_of(NUMBER))
         }
         _ => false,
     }

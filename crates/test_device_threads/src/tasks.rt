@@ -50,6 +50,11 @@ pub(crate) fn byte_of(number: u32) -> u8 {
     (number & 0xff) as u8
 }
 
+// Whether each of the bytes is this one.
+pub(crate) fn are_all(bytes: &[u8], byte: u8) -> bool {
+    bytes.iter().all(|other| *other == byte)
+}
+
 // Where the device's own bytes of page 1 begin.
 pub(crate) fn own(device: DeviceNo) -> Iova {
     Iova(0x1000 + 64 * u64::from(device.0 & 0x3f))

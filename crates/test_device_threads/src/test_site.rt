@@ -52,7 +52,7 @@ impl Site for TestSite {
     fn equip(&mut self, jobs: Vec<Job>) {
         if let Some(one) = self.idle.pop() {
             let Finished { port, results: _ } = one;
-            let _put = self.workers.push(Worker { port, jobs });
+            let _put = self.workers.push(Worker { port, jobs }).ok();
         }
     }
 
@@ -99,20 +99,18 @@ impl Site for TestSite {
             workers: _,
             mut idle,
         } = self;
-        let (_key, own) = port.close();
         let mut passes = Vec::new(alloc);
-        let _put = passes.push(pass);
-        let _put = passes.push(own);
+        put_last(&server, &mut passes, pass);
+        put_own(&server, &mut passes, port);
         let mut all = Vec::new(alloc);
         while let Some(one) = idle.pop() {
             let Finished { port, results } = one;
-            let (_key, own) = port.close();
-            let _put = passes.push(own);
-            let _put = all.push(results);
+            put_own(&server, &mut passes, port);
+            put_results(&mut all, results);
         }
-        match server.close(passes) {
-            Ok(core) => Some((core, all)),
-            Err(_) => None,
+        match closed(server, passes) {
+            Some(core) => Some((core, all)),
+            None => None,
         }
     }
 }
@@ -158,9 +156,39 @@ fn idle_devices(
     while let (Some(key), Some(pass)) = (keys.pop(), passes.pop()) {
         let port = server.port(key, pass);
         let results = Vec::new(alloc);
-        let _put = idle.push(Finished { port, results });
+        let _put = idle.push(Finished { port, results }).ok();
     }
     idle
+}
+
+// Puts the pass behind the others, if there is memory.
+fn put_last(server: &Server, passes: &mut Vec<Pass>, pass: Pass)
+    requires { ArePassesOf server.now passes.old.items × IsPassOf server.now pass }
+    ensures { ArePassesOf server.now passes.new.items }
+{
+    let _ = server;
+    let _put = passes.push(pass).ok();
+}
+
+// Puts the port's own pass behind the others, if there is memory.
+fn put_own(server: &Server, passes: &mut Vec<Pass>, port: Port)
+    requires { ArePassesOf server.now passes.old.items × IsPortOf server.now port }
+    ensures { ArePassesOf server.now passes.new.items }
+{
+    let (_key, own) = port.close();
+    put_last(server, passes, own);
+}
+
+// Puts the results behind the others, if there is memory.
+fn put_results(all: &mut Vec<Vec<JobResult>>, results: Vec<JobResult>) {
+    let _put = all.push(results).ok();
+}
+
+// The core of a server that ends.
+fn closed(server: Server, passes: Vec<Pass>) -> Option<Core>
+    requires { ArePassesOf server passes.items }
+{
+    server.close(passes).ok()
 }
 
 // Changes the map so many times, and flushes the port's device each time.

@@ -22,6 +22,6 @@ loop-key-preserved c =
           loop.invariant.keys;
       passes = left (IsPassOf server) loop.passes.items c.pop-in-loop-key.new.self.items c.pop-in-loop-key.result
           c.pop-in-loop-key.ensures.items loop.invariant.passes;
-      back = put (λ one. IsPortOf server one.port) loop.idle.items c.push-put.new.self.items _ _
-          c.push-put.ensures.items loop.invariant.back c.port-port.ensures.owned;
+      back = put (λ one. IsPortOf server one.port) loop.idle.items c.push.new.self.items _ _
+          c.push.ensures.items loop.invariant.back c.port-port.ensures.owned;
     }

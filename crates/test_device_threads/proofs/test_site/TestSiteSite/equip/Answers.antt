@@ -10,7 +10,7 @@ invariant_of-self c =
     record {
       of_pass = self.of_pass;
       of_port = self.of_port;
-      can = put (CanRun self.server) self.workers.items c.push-put.new.self.items _ _ c.push-put.ensures.items self.can
+      can = put (CanRun self.server) self.workers.items c.push.new.self.items _ _ c.push.ensures.items self.can
           (record {
             owned = last (λ one. IsPortOf self.server one.port) self.idle.items c.pop.new.self.items came
                 c.in-Some.ensures.items self.back;
