@@ -1,8 +1,10 @@
 -- Marks in their words: what a word's bits say, and what becomes of them.
 use Rattle.std.proofs.Common.{◌≡◌, ℕ, ◌+◌, ◌-◌, ◌*◌, ◌/◌, ◌%◌, ◌^◌, ◌<◌, ◌≤◌, Bool, true, false, cond, not, ◌&&◌, ◌||◌}
-use Rattle.std.proofs.Common.{eqb, ltb, leb, refl, sym, ap, ◌∙◌, arith, ⊎_elim}
+use Rattle.std.proofs.Common.{Option, None, eqb, ltb, leb, refl, sym, ap, ◌∙◌, arith, ⊎_elim}
 use Rattle.std.specs.Int.{bit_not, w64}
 use Rattle.std.specs.Int.RustNames.{bit_and, bit_or}
+use Rattle.std.specs.Map.{lookup}
+use Rattle.std.specs.Option.{unwrap_or}
 use Rattle.std.proofs.lemmas.Bool.{cases_lt, eqb-true, le-leb, le-ltb, lt-leb, lt-ltb}
 use Rattle.std.proofs.lemmas.Bool.Decides.{nat_tests}
 use Rattle.dirty_bitmap.specs.Marks.{Words, has_bit, is_marked, word_at}
@@ -184,3 +186,30 @@ module _ (number first last before behind low high : ℕ) (low_is : low ≡ firs
 -- the page is one of these, in a word before this one
 abbrev pub is_gone : ℕ → ℕ → ℕ → ℕ → Bool
 is_gone first last number page = ltb (page / 64) number && (leb first page && leb page last)
+
+-- ---- a word is changed
+
+-- a map by which this number has another word, or none, and each other its own
+module _ (old new : Words) (number word : ℕ) (put : Option ℕ) (change : ℕ → ℕ) (was : word_at old number ≡ word)
+    (is : unwrap_or put 0 ≡ change word)
+    (updates : (n : ℕ) → lookup (eqb n) new ≡ cond (eqb number n) put (lookup (eqb n) old)) where
+  pub word_changed : (other : ℕ)
+      → word_at new other ≡ cond (eqb number other) (change (word_at old other)) (word_at old other)
+  word_changed other = ap (λ (o : Option ℕ). unwrap_or o 0) (updates other) ∙ by_test (eqb number other) refl
+    where
+      by_test : (b : Bool) → eqb number other ≡ b
+          → unwrap_or (cond b put (lookup (eqb other) old)) 0 ≡ cond b (change (word_at old other)) (word_at old other)
+      by_test true same = is ∙ ap change (sym was ∙ ap (word_at old) (eqb-true number other same))
+      by_test false same = refl
+
+-- what was put there is gone again
+pub removed_again : (old mid new : Words) (number : ℕ) (put : Option ℕ)
+    → ((n : ℕ) → lookup (eqb n) mid ≡ cond (eqb number n) put (lookup (eqb n) old))
+    → ((n : ℕ) → lookup (eqb n) new ≡ cond (eqb number n) None (lookup (eqb n) mid))
+    → (n : ℕ) → lookup (eqb n) new ≡ cond (eqb number n) None (lookup (eqb n) old)
+removed_again old mid new number put puts removes n = removes n ∙ by_test (eqb number n) (puts n)
+  where
+    by_test : (b : Bool) → lookup (eqb n) mid ≡ cond b put (lookup (eqb n) old)
+        → cond b None (lookup (eqb n) mid) ≡ cond b None (lookup (eqb n) old)
+    by_test true is = refl
+    by_test false is = is

@@ -1,10 +1,8 @@
 -- Marked pages, as they are kept: a bit a page, 64 in each word.
-use Rattle.std.specs.Prelude.{ℕ, ◌/◌, ◌%◌, Bool, ◌==◌, List}
-use Rattle.std.specs.BTreeMap.{is_at}
+use Rattle.std.specs.Prelude.{ℕ, ◌/◌, ◌%◌, Bool, ◌==◌, eqb, List}
 use Rattle.std.specs.Int.{bit_at}
 use Rattle.std.specs.Map.{lookup}
 use Rattle.std.specs.Option.{unwrap_or}
-use Rattle.std.specs.Ordering.{nat_cmp}
 
 -- words, each with its number
 abbrev pub Words : Type 0
@@ -12,7 +10,7 @@ Words = List (ℕ × ℕ)
 
 -- the word of this number; one that isn't there has no bit
 abbrev pub word_at : Words → ℕ → ℕ
-word_at words number = unwrap_or (lookup (is_at (nat_cmp number)) words) 0
+word_at words number = unwrap_or (lookup (eqb number) words) 0
 
 -- bit k of the word is set
 abbrev pub has_bit : ℕ → ℕ → Bool

@@ -6,7 +6,11 @@ ghost use Rattle.dirty_bitmap.specs.Marks.{has_bit, word_at};
 
 use iofd_words::NoMemory;
 use std::alloc::Allocator;
-use std::collections::BTreeMap;
+use std::collections::HashMap;
+use std::hash::{BuildHasherDefault, FoldHasher};
+
+/// Words of 64 bits by their numbers.
+pub(crate) type WordMap<A> = HashMap<u64, u64, BuildHasherDefault<FoldHasher>, A>;
 
 /// The word whose lowest bits are set, so many of them, or all where it has fewer.
 pub(crate) fn ones(many: u64) -> u64
@@ -19,7 +23,7 @@ pub(crate) fn ones(many: u64) -> u64
 }
 
 /// The word of this number.
-pub(crate) fn word_in<A: Allocator>(words: &BTreeMap<u64, u64, A>, number: u64) -> u64
+pub(crate) fn word_in<A: Allocator>(words: &WordMap<A>, number: u64) -> u64
     ensures { result ≡ word_at words.now.entries number }
 {
     words.get(&number).copied().unwrap_or(0)
@@ -40,7 +44,7 @@ pub(crate) fn joined(low: u64, high: u64, shift: u64) -> u64
 /// Sets these bits in the word, which has some of them then. Its only error is want of memory; it comes only where the
 /// word had no bit, and changes nothing.
 pub(crate) fn add_bits<A: Allocator + Copy>(
-    words: &mut BTreeMap<u64, u64, A>,
+    words: &mut WordMap<A>,
     number: u64,
     bits: u64,
 ) -> Result<(), NoMemory>
@@ -62,11 +66,7 @@ pub(crate) fn add_bits<A: Allocator + Copy>(
 
 /// Leaves of the word's bits just these. It takes no memory: a word of which some are left stays in its place, and one
 /// of which none is left goes.
-pub(crate) fn keep_bits<A: Allocator + Copy>(
-    words: &mut BTreeMap<u64, u64, A>,
-    number: u64,
-    bits: u64,
-)
+pub(crate) fn keep_bits<A: Allocator + Copy>(words: &mut WordMap<A>, number: u64, bits: u64)
     ensures { (other : ℕ) → word_at words.new.entries other
         ≡ (if number == other then bit_and (word_at words.old.entries other) bits
         else word_at words.old.entries other) }

@@ -5,10 +5,10 @@ ghost use Rattle.std.specs.Prelude.{ℕ, false, not, nat_le, OnOk, OnErr};
 ghost use Rattle.iofd_words.specs.DirtyWords.{dirty_words, is_page_of, is_told};
 ghost use Rattle.dirty_bitmap.specs.Marks.{has_bit, is_marked};
 
-use crate::bits::{add_bits, joined, keep_bits, ones, word_in};
+use crate::bits::{WordMap, add_bits, joined, keep_bits, ones, word_in};
 use iofd_words::{NoMemory, PAGE_SIZE, Span};
 use std::alloc::{Allocator, Global};
-use std::collections::BTreeMap;
+use std::collections::HashMap;
 use std::marker::Model;
 
 // How many pages a word has.
@@ -36,7 +36,7 @@ pub(crate) fn told(span: Span) -> Span
 #[derive(Drop)]
 pub struct Marks<A: Allocator = Global> {
     // A bit a page, 64 pages in each word, by the page's number divided by 64. A word that has no mark any more goes.
-    words: BTreeMap<u64, u64, A>,
+    words: WordMap<A>,
 }
 
 impl<A: Allocator> Model for Marks<A> {
@@ -53,7 +53,7 @@ impl<A: Allocator> Marks<A> {
         ensures { (page : ℕ) → is_marked result page ≡ false }
     {
         Marks {
-            words: BTreeMap::new(alloc),
+            words: HashMap::new(alloc),
         }
     }
 
