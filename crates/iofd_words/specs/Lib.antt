@@ -29,6 +29,7 @@ pub mod Sorted
 pub mod Span
 pub mod TablePlaces
 pub mod Tables
+pub mod Told
 pub mod Turns
 pub mod Usable
 pub mod View

@@ -18,6 +18,7 @@ mod refusal;
 mod reply;
 mod rows;
 mod span;
+mod told;
 mod width;
 
 pub use burst::Burst;
@@ -35,7 +36,7 @@ pub use numbers::{
 };
 pub use query::{Answer, Query, Translation};
 pub use range::{IovaRange, RangeList};
-pub use record::{MovedFrames, Record};
+pub use record::Record;
 pub use refusal::{Cause, Errno, NoMemory, Refusal};
 pub use reply::Reply;
 pub use rows::{

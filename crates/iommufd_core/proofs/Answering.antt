@@ -1,6 +1,6 @@
 -- The record of an event that is refused, and of one that is carried out, with the frames of tables that it moves or
 -- doesn't.
-use Rattle.std.proofs.Common.{◌≡◌, ℕ, true, false, not, Option, Some, None, Result, Ok, Err, List, refl, sym, subst, []}
+use Rattle.std.proofs.Common.{◌≡◌, ℕ, Bool, true, false, not, Option, Some, None, Result, Ok, Err, List, refl, sym, subst, []}
 use Rattle.std.specs.List.{list_all}
 use Rattle.std.specs.Prelude.{IsTrue}
 use Rattle.std.specs.Result.{IfOk, OnErr}
@@ -8,10 +8,12 @@ use Rattle.iofd_steps.specs.After.{changed}
 use Rattle.iofd_steps.specs.Answers.{Answers}
 use Rattle.iofd_refusals.specs.Checks.{refusal}
 use Rattle.iofd_steps.specs.Run.{IsAnswer, Lawful, MovesFrames, after, after_answer}
+use Rattle.iofd_words.specs.Record.{is_report}
 use Rattle.iofd_words.specs.Tables.{MovesTables, is_orphan, may_go, with_tables}
 use Rattle.iofd_words.specs.View.{View, view}
 use Rattle.iofd_words.specs.World.{World}
 use Rattle.iofd_words.specs.declared.event.Event.{Event}
+use Rattle.iofd_words.specs.declared.event.Event.TheVariants as event
 use Rattle.iofd_words.specs.declared.numbers.FrameNo.{FrameNo}
 use Rattle.iofd_words.specs.declared.numbers.PassNo.{PassNo}
 use Rattle.iofd_words.specs.declared.refusal.Cause.{Cause}
@@ -82,6 +84,33 @@ module _ {A : Type 0} (at : ℕ) (e : Event A) (via : Option FrameNo) (old new :
   none_chosen steps chosen =
       none_moved (λ w tidy shows none may. let (answers, after) = steps w tidy shows none in (answers, chosen w, after))
 
+-- ---- events by which frames of tables may move: none of them tells a report
+
+abbrev pub may_move : {A : Type 0} → Event A → Bool
+may_move (event.Map file request) = true
+may_move (event.Copy file request) = true
+may_move (event.Unmap file request) = true
+may_move (event.HwptAlloc file request) = true
+may_move (event.Destroy file id) = true
+may_move (event.Close file) = true
+may_move (event.Attach device pt_id) = true
+may_move (event.Detach device) = true
+may_move e = false
+
+no_report : {A X : Type 0} (w : World) (e : Event A) (answer : Reply) → may_move e ≡ true → Answers w e answer
+    → is_report answer ≡ true → X
+unfolding Answers
+no_report w (event.Map file request) (reply.Dirty words) moves answers = absurd answers
+no_report w (event.Copy file request) (reply.Dirty words) moves answers = absurd answers
+no_report w (event.Unmap file request) (reply.Dirty words) moves answers = absurd answers
+no_report w (event.HwptAlloc file request) (reply.Dirty words) moves answers = absurd answers
+no_report w (event.Destroy file id) (reply.Dirty words) moves answers = absurd answers
+no_report w (event.Close file) (reply.Dirty words) moves answers = absurd answers
+no_report w (event.Attach device pt_id) (reply.Dirty words) moves answers = absurd answers
+no_report w (event.Detach device) (reply.Dirty words) moves answers = absurd answers
+no_report w e (reply.Dirty words) moves answers = absurd cc
+no_report w e answer moves answers = λ is. absurd cc
+
 -- ---- what an event is granted, and whether it may take memory, where it is known which one it is
 module _ {A : Type 0} (at : ℕ) (e f : Event A) (via : Option FrameNo) (s : State A) (same : e ≡ f)
     (granted : IsGrantedFor at e via s) where
@@ -93,6 +122,14 @@ module _ {A : Type 0} (at : ℕ) (e f : Event A) (via : Option FrameNo) (s : Sta
 
   pub granted_via : IsGrantedVia f via s
   granted_via = record { at = at; granted = subst (λ (x : Event A). IsGrantedFor at x via s) same granted }
+
+  -- its answer is no report, if it is one of those that may move frames of tables
+  pub tells_none : {X : Type 0} → may_move f ≡ true → (answer : Reply) (taken given : List FrameNo) (new : State A)
+      → MovingSteps at f via s answer taken given new → is_report answer ≡ true → X
+  tells_none moves answer taken given new steps =
+      let on = subst (λ (x : Event A). IsGrantedFor at x via s) same granted in
+      let told = steps on.granted.world on.granted.tidy on.granted.shows on.granted.none on.may in
+      no_report on.granted.world f answer moves told.0
 
   pub granted_known : IsKnown s
   granted_known =

@@ -17,8 +17,8 @@ use crate::answer_in_place::AnswerInPlace;
 use crate::{events, look, notices, opening, ranges, turn_counts};
 use event_device_access::access;
 use iofd_words::{
-    AccessKind, Act, Answer, CallError, Config, DeviceNo, FileNo, FrameNo, Iova, MovedFrames,
-    NoMemory, ObjId, PassNo, Query, Record, Reply, Span,
+    AccessKind, Act, Answer, CallError, Config, DeviceNo, FileNo, FrameNo, Iova, NoMemory, ObjId,
+    PassNo, Query, Record, Reply, Span,
 };
 use iova_ranges::RangeSet;
 use server_state::State;
@@ -121,13 +121,12 @@ impl<A: Allocator + Copy> Core<A> {
         let Ok(reply) = events::answer(&mut self.state, at, act, &mut taken, &mut given) else {
             return Err(NoMemory);
         };
-        let Ok(frames) = MovedFrames::new(taken, given) else {
-            // No event takes frames and gives some back.
+        let Ok(record) = Record::new(alloc, pass, event, reply, taken, given) else {
+            // No event takes frames and gives some back, or moves some and tells a report.
             unreachable!()
         };
         turn_counts::count(&mut self.turns, &act.event);
-        self.records
-            .push_reserved(Record::new(pass, event, reply, frames));
+        self.records.push_reserved(record);
         Ok(Stamp { at, reply })
     }
 

@@ -3,11 +3,12 @@
 ghost use Rattle.std.specs.Prelude.{◌≡◌, ℕ, true, None, [], IfOk, IsTrue, OnErr, OnOk};
 ghost use Rattle.iofd_refusals.specs.Checks.{checks};
 ghost use Rattle.iofd_words.specs.FirstTrue.{first_true};
+ghost use Rattle.iofd_words.specs.Record.{is_report};
 ghost use Rattle.iofd_words.specs.View.{view};
 ghost use Rattle.iofd_words.specs.World.{World};
 ghost use Rattle.server_state.specs.Seen.{seen};
 ghost use Rattle.server_state.specs.Shows.{Shows};
-ghost use Rattle.iommufd_core.specs.Moved.{MovesOneWay};
+ghost use Rattle.iommufd_core.specs.Moved.{MovesNone, MovesOneWay};
 ghost use Rattle.iommufd_core.specs.Server.{is_in_place, may_lack, takes_memory};
 ghost use Rattle.server_state.specs.Step.{Answered, IsCalled, IsGrantedFor, IsKnown, IsTidy, MovingSteps};
 ghost use Rattle.server_state.specs.Step.{TidyShowsSame};
@@ -29,8 +30,8 @@ use server_state::State;
 use std::alloc::Allocator;
 
 /// Answers the event, at this position, and carries it out if nothing refuses it. The frames that it takes for tables
-/// and gives back are listed, each list in the order of its record; no event does both. An error leaves the world as it
-/// was.
+/// and gives back are listed, each list in the order of its record; no event does both, and a report moves none. An error
+/// leaves the world as it was.
 ///
 /// It is part of its only caller, as `commit` is of it: a reply handed over in memory would be read back while the
 /// stores before it, an access's own among them, are still on their way to the cache.
@@ -48,6 +49,7 @@ pub(crate) fn answer<A: Allocator + Copy>(
     ensures ok { IfOk result (λ reply.
         Answered at act.now.event act.now.via state.old reply taken.new.items given.new.items state.new) }
     ensures one_way { OnOk result (MovesOneWay taken.new.items given.new.items) }
+    ensures reports { IfOk result (λ reply. MovesNone (is_report reply) taken.new.items given.new.items) }
     ensures err { OnErr result (TidyShowsSame at state.old state.new) }
     ensures memory { OnErr result ((first_true (checks (seen state.old) act.now.event) ≡ None)
         × IsTrue (takes_memory (seen state.old) act.now.event)) }
@@ -115,6 +117,7 @@ fn commit<A: Allocator + Copy>(
     ensures ok { IfOk result (λ reply.
         MovingSteps at act.now.event act.now.via state.old reply taken.new.items given.new.items state.new) }
     ensures one_way { OnOk result (MovesOneWay taken.new.items given.new.items) }
+    ensures reports { IfOk result (λ reply. MovesNone (is_report reply) taken.new.items given.new.items) }
     ensures err { OnErr result (TidyShowsSame at state.old state.new) }
     ensures memory { OnErr result (IsTrue (takes_memory (seen state.old) act.now.event)) }
     ensures lacking { OnErr result ((at : ℕ) (w : World) → IsTidy at w → Shows w state.old →

@@ -1,12 +1,12 @@
 //! One record of a journal.
 
-ghost use Rattle.std.specs.Prelude.{◌≡◌, ◌<◌, IfNone, IfOk, IfSome, OnErr, length};
+ghost use Rattle.std.specs.Prelude.{◌≡◌, ◌<◌, ◌⊎◌, IfNone, IfOk, IfSome, OnErr, length};
 ghost use Rattle.iofd_words.specs.Record.{Record};
 ghost use Rattle.journal_audit.specs.Next.{IsJudged, IsNext, Tells, next_of};
 ghost use Rattle.journal_audit_bytes.specs.Reading.{raw_of};
 ghost use Rattle.journal_audit_world.specs.Kept.{IsKept};
 
-use iofd_words::{Config, MovedFrames, NoMemory, Record};
+use iofd_words::{Config, NoMemory, Record};
 use journal_audit_bytes::{ReadError, SpelledRecord, Version, read_record, typed_reply};
 use journal_audit_records::step;
 use journal_audit_world::World;
@@ -29,22 +29,25 @@ fn next_of(lawful: bool) -> Next
     if lawful { Next::Follows } else { Next::Not }
 }
 
-// The record that is told by what its bytes spell, if they tell one. The only error is want of memory, where it both
-// took frames and gave some back.
+// The record that is told by what its bytes spell, if they tell one. The only error is want of memory, where it moved
+// frames.
 fn typed<A: Allocator>(
+    alloc: A,
     config: &Config<A>,
     spelled: SpelledRecord<A>,
 ) -> Result<Option<Record<A>>, NoMemory>
     ensures told { IfOk result (λ typed. IfSome typed (λ told. Tells config.now (raw_of spelled) told)) }
     ensures none { IfOk result (λ typed.
         IfNone typed ((r : Record A) → Tells config.now (raw_of spelled) r → ⊥)) }
-    ensures memory { OnErr result ((0 < length spelled.taken) × (0 < length spelled.given)) }
+    ensures memory { OnErr result ((0 < length spelled.taken) ⊎ (0 < length spelled.given)) }
 {
     let Some(reply) = typed_reply(config, &spelled.event, spelled.reply) else {
         return Ok(None);
     };
-    let frames = MovedFrames::new(spelled.taken.into_vec(), spelled.given.into_vec())?;
-    Ok(Some(Record::new(spelled.pass, spelled.event, reply, frames)))
+    let taken = spelled.taken.into_vec();
+    let given = spelled.given.into_vec();
+    let record = Record::new(alloc, spelled.pass, spelled.event, reply, taken, given)?;
+    Ok(Some(record))
 }
 
 // Whether what the bytes spell tells a record that is lawful at this position. If so the world becomes the one after
@@ -58,7 +61,7 @@ fn judge<A: Allocator + Copy>(
     requires kept { IsKept at world.old }
     ensures { IfOk result (λ lawful. IsJudged A at world.old world.new (raw_of spelled) lawful) }
 {
-    match typed(&world.config, spelled)? {
+    match typed(alloc, &world.config, spelled)? {
         Some(record) => step(alloc, at, world, &record),
         None => Ok(false),
     }

@@ -246,6 +246,35 @@ pub(crate) fn want_for_memory(alloc: Global) -> bool {
     }
 }
 
+/// Clears 4,096 pages, of which just page 0 may be marked. Whether none is then.
+fn is_cleared<A: Allocator + Copy>(dirty: &mut DirtyTables<A>) -> bool {
+    for part in 0..16 {
+        let Some(span) = Span::of_length(256 * 4096 * part, 256 * 4096) else {
+            return false;
+        };
+        dirty.clear(FILE, HWPT, span);
+    }
+    are_marked_up_to(dirty, 0)
+}
+
+/// Whether a clear takes no memory, where words are marked and where none are.
+fn clears_in_place(heap: &LocalHeap) -> bool {
+    let mut dirty = DirtyTables::new(heap);
+    if dirty.start(FILE, HWPT).is_err() || dirty.mark(FILE, HWPT, 0).is_err() {
+        return false;
+    }
+    let used = heap.used();
+    is_cleared(&mut dirty) && heap.used() <= used
+}
+
+/// The same in a heap of its own.
+pub(crate) fn take_none_to_clear(alloc: Global) -> bool {
+    match LocalHeap::new(alloc, 1 << 14) {
+        Ok(heap) => clears_in_place(&heap),
+        Err(_) => false,
+    }
+}
+
 /// Whether page 2 is marked in a page table that is tracked. None where memory is wanting, and then nothing was
 /// changed.
 fn is_marked_at_last<A: Allocator + Copy>(dirty: &mut DirtyTables<A>) -> Option<bool> {

@@ -25,6 +25,8 @@ fn pages_and_objects_take_memory(rt: HostRuntime) {
 #[test]
 fn marks_take_memory(rt: HostRuntime) {
     assert!(rt;
-        dirty::comes_once_there_is_memory(rt.alloc()) && dirty::want_for_memory(rt.alloc())
+        dirty::comes_once_there_is_memory(rt.alloc())
+            && dirty::want_for_memory(rt.alloc())
+            && dirty::take_none_to_clear(rt.alloc())
     );
 }

@@ -2,9 +2,8 @@
 
 use iofd_words::{
     AccessKind, Burst, Cause, Config, ConfigError, DeviceNo, DeviceSet, FaultReason, FrameList,
-    FrameNo, MapFlags, MovedFrames, Rights, Span, SpanList, UserNo, Width,
+    FrameNo, MapFlags, Rights, Span, SpanList, UserNo, Width,
 };
-use linked_list_allocator::LocalHeap;
 use std::alloc::Global;
 
 // The first and the last number of a span of this length.
@@ -175,46 +174,6 @@ fn lists_frames(alloc: Global, given: &[FrameNo]) -> bool {
         }
         Err(_) => false,
     }
-}
-
-// Whether both lists of frames are told as they were handed in.
-fn tells_both(alloc: Global, taken: &[FrameNo], given: &[FrameNo]) -> bool {
-    match (taken.to_vec(alloc), given.to_vec(alloc)) {
-        (Ok(first), Ok(others)) => match MovedFrames::new(first, others) {
-            Ok(moved) => moved.taken() == taken && moved.given() == given,
-            Err(_) => false,
-        },
-        _ => false,
-    }
-}
-
-#[test]
-fn the_frames_that_a_step_moves_are_told(rt: HostRuntime) {
-    let frames = &[FrameNo(2), FrameNo(3)];
-    assert!(rt; tells_both(rt.alloc(), frames, &[]));
-    assert!(rt; tells_both(rt.alloc(), &[], frames));
-    assert!(rt; tells_both(rt.alloc(), &[FrameNo(5)], frames));
-}
-
-// Whether these frames, taken and given back, want for memory once a block takes what is left of the heap.
-fn are_refused_behind_a_block(heap: &LocalHeap, frames: &[FrameNo]) -> bool {
-    let (Ok(taken), Ok(given)) = (frames.to_vec(heap), frames.to_vec(heap)) else {
-        return false;
-    };
-    match Vec::<u8, &LocalHeap>::with_capacity(heap, heap.free()) {
-        Ok(_block) => MovedFrames::new(taken, given).is_err(),
-        Err(_) => false,
-    }
-}
-
-#[test]
-fn frames_of_both_kinds_want_for_memory(rt: HostRuntime) {
-    let frames = &[FrameNo(2), FrameNo(3), FrameNo(5), FrameNo(7)];
-    let is_refused = match LocalHeap::new(rt.alloc(), 1 << 12) {
-        Ok(heap) => are_refused_behind_a_block(&heap, frames),
-        Err(_) => false,
-    };
-    assert!(rt; is_refused);
 }
 
 // Whether a list of spans gives this one.

@@ -3,7 +3,7 @@
 use crate::heads::{LARGE, SMALL, behind_head};
 use iofd_words::{
     AccessKind, Burst, Config, CopyRequest, DeviceNo, Event, Fault, FaultReason, FileNo, FrameNo,
-    Iova, MapFlags, MapRequest, MovedFrames, ObjId, PassNo, Record, Reply, SourceId, UserNo,
+    Iova, MapFlags, MapRequest, ObjId, PassNo, Record, Reply, SourceId, UserNo,
 };
 use journal_audit_bytes::{SpelledRecord, Version, read_head, read_record, typed_reply};
 use journal_audit_writing::{JournalError, journal, write_record};
@@ -43,6 +43,7 @@ const EACH: &[u8] = b"\x02\0\x01\x01\0\0\0\0\0\0\
 
 // The record that the bytes tell, if they tell one and there is memory for it.
 fn typed<A: Allocator, B: Allocator>(
+    alloc: A,
     config: &Config<B>,
     spelled: SpelledRecord<A>,
 ) -> Option<Record<A>> {
@@ -54,8 +55,8 @@ fn typed<A: Allocator, B: Allocator>(
         given,
     } = spelled;
     let reply = typed_reply(config, &event, reply)?;
-    let frames = MovedFrames::new(taken.into_vec(), given.into_vec()).ok()?;
-    Some(Record::new(pass, event, reply, frames))
+    let (taken, given) = (taken.into_vec(), given.into_vec());
+    Record::new(alloc, pass, event, reply, taken, given).ok()
 }
 
 // The records that the bytes tell, up to 32, if they tell records to their end.
@@ -71,7 +72,7 @@ fn records_of<A: Allocator + Copy, B: Allocator>(
             return Some(records);
         }
         let (spelled, after) = read_record(alloc, Version::Two, config.passes(), rest).ok()?;
-        records.push(typed(config, spelled)?).ok()?;
+        records.push(typed(alloc, config, spelled)?).ok()?;
         rest = after;
     }
     None
@@ -122,8 +123,8 @@ fn record_of<A: Allocator + Copy>(
     event: Event<A>,
     reply: Reply,
 ) -> Option<Record<A>> {
-    let frames = MovedFrames::new(Vec::new(alloc), Vec::new(alloc)).ok()?;
-    Some(Record::new(PassNo(pass), event, reply, frames))
+    let (taken, given) = (Vec::new(alloc), Vec::new(alloc));
+    Record::new(alloc, PassNo(pass), event, reply, taken, given).ok()
 }
 
 fn map<A: Allocator>(flags: u32, iova: u64) -> Event<A> {

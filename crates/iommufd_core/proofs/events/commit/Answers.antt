@@ -5,7 +5,7 @@ use Rattle.iofd_words.specs.FirstTrue.{first_true}
 use Rattle.iofd_words.specs.View.{view}
 use Rattle.iofd_words.specs.declared.event.Event.{Event}
 use Rattle.iommufd_core.proofs.Answering.{granted_as, granted_at, granted_via, if_ok, lack_as, none_chosen}
-use Rattle.iommufd_core.proofs.Answering.{none_moved, on_both, on_err, takes_as}
+use Rattle.iommufd_core.proofs.Answering.{none_moved, on_both, on_err, takes_as, tells_none}
 use Rattle.server_state.proofs.Errors.{on_err_same}
 use Rattle.server_state.specs.Step.{MovingSteps}
 use Rattle.iommufd_core.proofs.events.commit.Goals as goal
@@ -400,3 +400,53 @@ returns-in-AccessPin-clause-lacking g c =
 pub returns-in-DirtyEnable-clause-lacking : goal.returns-in-DirtyEnable-clause-lacking
 returns-in-DirtyEnable-clause-lacking g c =
     on_err_same c.commit-in-DirtyEnable.result _ (λ at w tidy shows none. lack_as w _ _ _ c.in-DirtyEnable.is refl)
+
+-- ---- none of these tells a report
+
+pub returns-in-Map-clause-reports : goal.returns-in-Map-clause-reports
+returns-in-Map-clause-reports g c = if_ok c.commit-in-Map.result _ _
+    (λ reply steps. tells_none c.args.at _ _ c.args.act.now.via c.args.state.now c.in-Map.is c.requires.granted refl
+    reply _ _ _ (steps c.args.act.now.via))
+    c.commit-in-Map.ensures.ok
+
+pub returns-in-Copy-clause-reports : goal.returns-in-Copy-clause-reports
+returns-in-Copy-clause-reports g c = if_ok c.commit-in-Copy.result _ _
+    (λ reply steps. tells_none c.args.at _ _ c.args.act.now.via c.args.state.now c.in-Copy.is c.requires.granted refl
+    reply _ _ _ (steps c.args.at c.args.act.now.via))
+    c.commit-in-Copy.ensures.ok
+
+pub returns-in-HwptAlloc-clause-reports : goal.returns-in-HwptAlloc-clause-reports
+returns-in-HwptAlloc-clause-reports g c = if_ok c.commit-in-HwptAlloc.result _ _
+    (λ reply steps. tells_none c.args.at _ _ c.args.act.now.via c.args.state.now c.in-HwptAlloc.is c.requires.granted refl
+    reply _ _ _ (steps c.args.at c.args.act.now.via))
+    c.commit-in-HwptAlloc.ensures.ok
+
+pub returns-in-Attach-clause-reports : goal.returns-in-Attach-clause-reports
+returns-in-Attach-clause-reports g c = if_ok c.commit-in-Attach.result _ _
+    (λ reply steps. tells_none c.args.at _ _ c.args.act.now.via c.args.state.now c.in-Attach.is c.requires.granted refl
+    reply _ _ _ (steps c.args.at c.args.act.now.via))
+    c.commit-in-Attach.ensures.ok
+
+pub returns-in-Unmap-clause-reports : goal.returns-in-Unmap-clause-reports
+returns-in-Unmap-clause-reports g c = if_ok c.commit-in-Unmap.result _ _
+    (λ reply steps. tells_none c.args.at _ _ c.args.act.now.via c.args.state.now c.in-Unmap.is c.requires.granted refl
+    reply _ _ _ (steps c.args.at c.args.act.now.via))
+    c.commit-in-Unmap.ensures.ok
+
+pub returns-in-Destroy-clause-reports : goal.returns-in-Destroy-clause-reports
+returns-in-Destroy-clause-reports g c = if_ok c.commit-in-Destroy.result _ _
+    (λ reply steps. tells_none c.args.at _ _ c.args.act.now.via c.args.state.now c.in-Destroy.is c.requires.granted refl
+    reply _ _ _ (steps c.args.at c.args.act.now.via))
+    c.commit-in-Destroy.ensures.ok
+
+pub returns-in-Close-clause-reports : goal.returns-in-Close-clause-reports
+returns-in-Close-clause-reports g c = if_ok c.commit-in-Close.result _ _
+    (λ reply steps. tells_none c.args.at _ _ c.args.act.now.via c.args.state.now c.in-Close.is c.requires.granted refl
+    reply _ _ _ (steps c.args.at c.args.act.now.via))
+    c.commit-in-Close.ensures.ok
+
+pub returns-in-Detach-clause-reports : goal.returns-in-Detach-clause-reports
+returns-in-Detach-clause-reports g c = if_ok c.commit-in-Detach.result _ _
+    (λ reply steps. tells_none c.args.at _ _ c.args.act.now.via c.args.state.now c.in-Detach.is c.requires.granted refl
+    reply _ _ _ (steps c.args.at c.args.act.now.via))
+    c.commit-in-Detach.ensures.ok

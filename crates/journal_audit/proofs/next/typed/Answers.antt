@@ -20,7 +20,7 @@ returns-clause-told g c =
       gives = sym c.in-Some.ensures;
       is = refl;
     } in
-    rw (c.new-2.ensures, c.in_ok-frames.ensures.ok, c.into_vec.ensures, c.into_vec-2.ensures) tells
+    rw (c.in_ok-record.ensures.ok, c.into_vec-taken.ensures, c.into_vec-given.ensures) tells
 
 pub returns-in_default-clause-none : goal.returns-in_default-clause-none
 returns-in_default-clause-none g c =

@@ -56,7 +56,6 @@ invariant_of-self-2 g c =
     rw (
       c.push_reserved.ensures.items,
       c.make_room.ensures.items,
-      c.new-2.ensures,
       c.in-Ok-new.ensures.ok,
       c.in-Ok.ensures.ok,
     ) kept
@@ -84,7 +83,6 @@ returns-clause-record g c =
         config,
         c.push_reserved.ensures.items,
         c.make_room.ensures.items,
-        c.new-2.ensures,
         c.in-Ok-new.ensures.ok,
         c.in-Ok.ensures.ok,
       ) refl;
