@@ -1,4 +1,4 @@
-//! Tests of what stands lowest, through public calls: of `iofd_words` (`words`, `records`), `object_table` (`objects`),
+//! Tests of what stands lowest, through public calls: of `iofd_words` (`words`), `object_table` (`objects`),
 //! `frame_memory` (`frames`), `held_pins` (`pins`) and `dirty_bitmap` (`dirty`), and of want of memory in these
 //! (`heaps`). Scripts show objects and pages that come and go, and accounts.
 #![tactic(auto)]
@@ -13,7 +13,5 @@ mod heaps;
 mod objects;
 #[cfg(test)]
 mod pins;
-#[cfg(test)]
-mod records;
 #[cfg(test)]
 mod words;
