@@ -1,14 +1,11 @@
 //! The program: it does what its words ask for, with its input and output.
 #![tactic(auto)]
 
-use iommufd_cli::{Choice, CliFault, audit, choose, session};
+use iommufd_cli::{Choice, CliFault, Served, audit, choose, serve};
 use std::alloc::Global;
-use std::env;
-use std::io::{self, BufReader, BufWriter, Read, Write};
+use std::io::{self, BufReader, Read, Write};
 use std::process::ExitCode;
-
-// How many bytes of output are handed on at once.
-const OUTPUT: usize = 0x1_0000;
+use std::{env, mem};
 
 fn main(rt: HostRuntime) -> io::Result<ExitCode> {
     let alloc = rt.alloc();
@@ -21,8 +18,8 @@ fn main(rt: HostRuntime) -> io::Result<ExitCode> {
         }
     };
     let mut reader = BufReader::new(alloc, rt.reader())?;
-    let mut writer = BufWriter::with_capacity(alloc, OUTPUT, io::writer(&rt))?;
-    match carried_out(alloc, choice, &mut reader, &mut writer) {
+    // A session hands its lines on in pages, and an audit says one line.
+    match carried_out(alloc, choice, &mut reader, &mut io::writer(&rt)) {
         Ok(status) => Ok(ExitCode::from(status)),
         Err(fault) => {
             eprintln!(rt; "error: {fault}")?;
@@ -38,10 +35,13 @@ fn carried_out<R: Read, W: Write>(
     reader: &mut R,
     writer: &mut W,
 ) -> Result<u8, CliFault> {
+    let mut served = Served::new();
     let status = match choice {
-        Choice::Session { journal } => session(alloc, reader, writer, journal)?,
+        Choice::Session { journal } => serve(alloc, reader, writer, journal, &mut served)?,
         Choice::Audit => audit(alloc, reader, writer)?,
     };
     writer.flush().map_err(CliFault::Output)?;
+    // The program ends, and its memory with it.
+    mem::forget(served);
     Ok(status)
 }

@@ -21,5 +21,5 @@ pub use command_line::{Choice, choose};
 pub use fault::{CliFault, InputFault};
 pub use line::Line;
 pub use replies::{bad_line, no_memory_line, notices_line, ranges_line};
-pub use run::session;
+pub use run::{Served, serve, session};
 pub use steps::answer_step;

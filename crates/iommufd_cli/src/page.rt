@@ -4,7 +4,7 @@ ghost use Rattle.std.specs.Prelude.{◌≡◌, ◌≤◌, ◌+◌, ◌++◌, [],
 
 use std::marker::Model;
 
-/// At most 4,096 bytes, of which a contract sees those that were pushed so far.
+/// At most 65,536 bytes, of which a contract sees those that were pushed so far.
 #[derive(Drop)]
 pub(crate) struct Page {
     // The bytes, and behind them any others.
@@ -19,12 +19,12 @@ impl Model for Page {
 
     ghost view = { λ page. take page.len page.bytes };
 
-    ghost invariant = { λ page. page.len ≤ 4096 };
+    ghost invariant = { λ page. page.len ≤ 65536 };
 }
 
 impl Page {
     /// The most bytes of a page.
-    const MAX: usize = 4096;
+    const MAX: usize = 0x1_0000;
 
     /// A page of no bytes.
     pub fn new() -> Page
@@ -38,7 +38,7 @@ impl Page {
 
     /// For how many more bytes there is room.
     pub fn room(&self) -> usize
-        ensures { length self.now + result ≡ 4096 }
+        ensures { length self.now + result ≡ 65536 }
     {
         Page::MAX - self.len
     }
@@ -59,7 +59,7 @@ impl Page {
 
     /// Adds these bytes, for which there has to be room.
     pub fn push_slice(&mut self, bytes: &[u8])
-        requires { length self.old + length bytes.now ≤ 4096 }
+        requires { length self.old + length bytes.now ≤ 65536 }
         ensures { self.new ≡ self.old ++ bytes.now }
     {
         let end = self.len + bytes.len();

@@ -20,7 +20,7 @@ use crate::steps::answer_step;
 use iofd_words::{Config, Record};
 use iommufd_core::Core;
 use iommufd_script::{ScriptError, Steps, read_script};
-use std::alloc::Allocator;
+use std::alloc::{Allocator, Global};
 use std::io::{self, Read, Write};
 
 /// Carries out the script that the reader gives, and writes the line of each step, or one line alone where the
@@ -42,19 +42,51 @@ pub fn session<R: Read, W: Write, A: Allocator + Copy>(
     ensures fault { IfErr result (λ fault.
         Leaves A fault (R.remaining reader.old) journal (W.contents writer.old) (W.contents writer.new)) }
 {
+    serve(alloc, reader, writer, journal, &mut Served::new())
+}
+
+/// What a session leaves in memory. Letting it go takes two or three hundredths of the session's time, which a program
+/// that ends behind its session spares by `mem::forget`.
+#[derive(Drop)]
+pub struct Served<A: Allocator = Global> {
+    server: Option<Core<A>>,
+}
+
+impl<A: Allocator> Served<A> {
+    /// Nothing as yet. It takes no memory.
+    pub fn new() -> Served<A> {
+        Served { server: None }
+    }
+}
+
+/// Does what `session` does, and leaves its server to the caller, in place of what was there.
+pub fn serve<R: Read, W: Write, A: Allocator + Copy>(
+    alloc: A,
+    reader: &mut R,
+    writer: &mut W,
+    journal: bool,
+    served: &mut Served<A>,
+) -> Result<u8, CliFault>
+    ensures text { IfOk result (λ status. IfSome (R.remaining reader.old) (λ input.
+        Writes (λ out. IsText A input journal out status × IsWithin input out status) (W.contents writer.old)
+        (W.contents writer.new))) }
+    ensures fault { IfErr result (λ fault.
+        Leaves A fault (R.remaining reader.old) journal (W.contents writer.old) (W.contents writer.new)) }
+{
     let written = match read_all(alloc, reader)? {
-        Some(bytes) => run_text(alloc, &bytes, writer, journal),
+        Some(bytes) => run_text(alloc, &bytes, writer, journal, &mut served.server),
         None => told(writer, &no_memory_line()),
     };
     written.map_err(CliFault::Output)
 }
 
-// Carries out a script, given whole.
+// Carries out a script, given whole, and leaves the server where it is told to.
 fn run_text<W: Write, A: Allocator + Copy>(
     alloc: A,
     text: &[u8],
     writer: &mut W,
     journal: bool,
+    server: &mut Option<Core<A>>,
 ) -> io::Result<u8>
     ensures text { IfOk result (λ status.
         Writes (λ out. IsReadText A text.now journal out status) (W.contents writer.old) (W.contents writer.new)) }
@@ -63,7 +95,9 @@ fn run_text<W: Write, A: Allocator + Copy>(
     ensures retried { IfErr result IsFinal }
 {
     match read_script(alloc, text) {
-        Ok((config, mut steps)) => run_script(alloc, &config, &mut steps, writer, journal),
+        Ok((config, mut steps)) => {
+            run_script(alloc, &config, &mut steps, writer, journal, server)
+        }
         Err(ScriptError::BadLine(number)) => told(writer, &bad_line(number)),
         Err(ScriptError::NoMemory) => told(writer, &no_memory_line()),
     }
@@ -76,6 +110,7 @@ fn run_script<W: Write, A: Allocator + Copy>(
     steps: &mut Steps<'_, A>,
     writer: &mut W,
     journal: bool,
+    server: &mut Option<Core<A>>,
 ) -> io::Result<u8>
     ensures text { IfOk result (λ status.
         Writes (λ out. IsRunText A config.now steps.old journal out status) (W.contents writer.old)
@@ -85,8 +120,7 @@ fn run_script<W: Write, A: Allocator + Copy>(
     ensures retried { IfErr result IsFinal }
 {
     match Core::new(alloc, config) {
-        // One call, with one end: each end lets the server go.
-        Ok(mut core) => run_whole(alloc, config, &mut core, steps, writer, journal),
+        Ok(core) => run_whole(alloc, config, server.insert(core), steps, writer, journal),
         Err(_) => told(writer, &no_memory_line()),
     }
 }

@@ -10,3 +10,4 @@ pub mod Spans
 pub mod Ascii
 pub mod Whole
 pub mod Words
+pub mod FirstField

@@ -36,7 +36,7 @@ front-le base i text h =
     omega (arith, whole, more, joined)
 
 -- the number with one more digit, where the byte is one and the number stays below 2^64
-abbrev with_next : ℕ → ℕ → ℕ → Option ℕ
+abbrev pub with_next : ℕ → ℕ → ℕ → Option ℕ
 with_next base n c = cond (nat_lt (digit_value c) base && nat_lt (n * base + digit_value c) (2 ^ 64))
     (Some (n * base + digit_value c)) None
 

@@ -1,12 +1,12 @@
 -- The first of the parts of a list between separators.
-use Rattle.std.proofs.Common.{◌≡◌, inl, inr, ℕ, ◌+◌, ◌<◌, ◌≤◌, Bool, true, false, not, cond, suc, eqb, get_or, List, []}
-use Rattle.std.proofs.Common.{◌∷◌, length, take, drop, refl, sym, ap, ◌∙◌, eq-eqb, arith}
+use Rattle.std.proofs.Common.{◌≡◌, inl, inr, ℕ, ◌+◌, ◌-◌, ◌<◌, ◌≤◌, Bool, true, false, not, cond, suc, eqb, get_or}
+use Rattle.std.proofs.Common.{List, [], ◌∷◌, length, take, drop, refl, sym, ap, ◌∙◌, eq-eqb, arith}
 use Rattle.std.proofs.lemmas.Bool.Decides.{nat_tests}
 use Rattle.std.proofs.lemmas.Bool.{cases_lt, eqb-true, ne_eqb}
-use Rattle.std.proofs.lemmas.List.{drop-drop}
+use Rattle.std.proofs.lemmas.List.{drop-drop, get_or-drop, length-drop, take_all}
 use Rattle.std.proofs.lemmas.Simd.{run_in_chunk_fails, run_in_chunk_le, run_in_chunk_stops}
 use Rattle.std.specs.Simd.Lanes.{chunk}
-use Rattle.std.proofs.lemmas.List.Sums.{position_or_len_is}
+use Rattle.std.proofs.lemmas.List.Sums.{fails_before_first, passes_at_first, position_or_len_is}
 use Rattle.std.proofs.lemmas.List.Splits.{slice_split_first, length-slice_split}
 use Rattle.std.specs.List.{position_or_len, prefix_len, slice_split, onto_first}
 use Rattle.iommufd_script.specs.Fields.{fields}
@@ -37,30 +37,56 @@ no_place n xs i end before =
     sym (position_or_len_is (λ x. eqb x n) xs (length xs) 0 (omega arith)
     (λ k h. ne_eqb (get_or xs k 0) n (before k (omega arith))) (λ h. absurd (omega arith)))
 
--- A stride of 16 from a place on, before which the number doesn't stand: of the stride, so many come before the first.
+-- A stride from a place on, before which the number doesn't stand: of the stride, so many come before the first.
 abbrev free_before : ℕ → List ℕ → ℕ → Type 0
 free_before n xs end = (k : ℕ) → k < end → get_or xs k 0 ≡ n → ⊥
 
-pub further : (n : ℕ) (xs : List ℕ) (i r : ℕ) → i + 16 ≤ length xs → r ≡ prefix_len (λ x. not (eqb x n)) (chunk i 16 xs)
-    → free_before n xs i → free_before n xs (i + r)
-further n xs i r room counted before k inside here = elim (cases_lt k i) [
+pub further : (n : ℕ) (xs : List ℕ) (i stride r : ℕ) → i + stride ≤ length xs
+    → r ≡ prefix_len (λ x. not (eqb x n)) (chunk i stride xs) → free_before n xs i → free_before n xs (i + r)
+further n xs i stride r room counted before k inside here = elim (cases_lt k i) [
   | inl under ↦ before k under here
   | inr past ↦
-      let fails = run_in_chunk_fails (λ x. eqb x n) xs i 16 r 0 room counted k past inside in
+      let fails = run_in_chunk_fails (λ x. eqb x n) xs i stride r 0 room counted k past inside in
       let equal = eq-eqb (get_or xs k 0) n here in absurd cc
 ]
+
+pub at_most_stride : (n : ℕ) (xs : List ℕ) (i stride r : ℕ) → i + stride ≤ length xs
+    → r ≡ prefix_len (λ x. not (eqb x n)) (chunk i stride xs) → r ≤ stride
+at_most_stride n xs i stride r room counted = run_in_chunk_le (λ x. eqb x n) xs i stride r 0 room counted
 
 pub past_stride : (n : ℕ) (xs : List ℕ) (i r : ℕ) → i + 16 ≤ length xs
     → r ≡ prefix_len (λ x. not (eqb x n)) (chunk i 16 xs) → 16 ≤ r → free_before n xs i → free_before n xs (i + 16)
 past_stride n xs i r room counted long before =
-    let most = run_in_chunk_le (λ x. eqb x n) xs i 16 r 0 room counted in
+    let most = at_most_stride n xs i 16 r room counted in
     let all : 16 ≡ prefix_len (λ x. not (eqb x n)) (chunk i 16 xs) = omega (arith, most, counted) in
-    further n xs i 16 room all before
+    further n xs i 16 16 room all before
 
-pub at_hit : (n : ℕ) (xs : List ℕ) (i r : ℕ) → i + 16 ≤ length xs → r ≡ prefix_len (λ x. not (eqb x n)) (chunk i 16 xs)
-    → r < 16 → get_or xs (i + r) 0 ≡ n
-at_hit n xs i r room counted short =
-    eqb-true (get_or xs (i + r) 0) n (run_in_chunk_stops (λ x. eqb x n) xs i 16 r 0 room counted short)
+pub at_hit : (n : ℕ) (xs : List ℕ) (i stride r : ℕ) → i + stride ≤ length xs
+    → r ≡ prefix_len (λ x. not (eqb x n)) (chunk i stride xs) → r < stride → get_or xs (i + r) 0 ≡ n
+at_hit n xs i stride r room counted short =
+    eqb-true (get_or xs (i + r) 0) n (run_in_chunk_stops (λ x. eqb x n) xs i stride r 0 room counted short)
+
+-- what is left behind such a place tells the first one of all
+pub of_rest : (n : ℕ) (xs : List ℕ) (i r : ℕ) → i ≤ length xs → free_before n xs i
+    → r ≡ position_or_len (λ x. eqb x n) (take (length xs - i) (drop i xs))
+    → r ≤ length (take (length xs - i) (drop i xs))
+    → i + r ≡ position_or_len (λ x. eqb x n) xs
+of_rest n xs i r within before place most =
+    let p = λ (x : ℕ). eqb x n in
+    let rest : take (length xs - i) (drop i xs) ≡ drop i xs =
+    take_all (length xs - i) (drop i xs) (omega (arith, length-drop i xs)) in
+    let here : r ≡ position_or_len p (drop i xs) = place ∙ ap (position_or_len p) rest in
+    let long : length (take (length xs - i) (drop i xs)) ≡ length xs - i = ap length rest ∙ length-drop i xs in
+    sym (position_or_len_is p xs (i + r) 0 (omega (arith, long))
+    (λ k h. elim (cases_lt k i) [
+      | inl under ↦ ne_eqb (get_or xs k 0) n (before k under)
+      | inr past ↦
+          sym (ap p (get_or-drop i xs (k - i) 0 ∙ ap (λ (j : ℕ). get_or xs j 0) (omega arith)))
+          ∙ fails_before_first p (drop i xs) (k - i) 0 (omega (arith, here))
+    ])
+    (λ h. sym (ap p (get_or-drop i xs r 0))
+    ∙ ap (λ (j : ℕ). p (get_or (drop i xs) j 0)) here
+    ∙ passes_at_first p (drop i xs) 0 (omega (arith, here, length-drop i xs))))
 
 -- there is always a part
 pub some_left : (line : List ℕ) → false ≡ eqb (length (fields line)) 0

@@ -1,8 +1,8 @@
 -- The fields of a line, parted by single spaces, and what each kind of field may be.
 use Rattle.std.specs.Prelude.{ℕ, ◌==◌, Bool, true, false, if◌then◌else◌, List, [], ◌∷◌, length}
 use Rattle.std.specs.Prelude.{codes, Option, Some}
-use Rattle.std.specs.Prelude.{None, option_map, is_some, nat_le}
-use Rattle.std.specs.List.{slice_split, list_all}
+use Rattle.std.specs.Prelude.{None, option_map, is_some, nat_le, take}
+use Rattle.std.specs.List.{position_or_len, slice_split, list_all}
 use Rattle.std.specs.Option.{option_and_then}
 use Rattle.std.specs.Str.{bytes_eq}
 use denote.Ref.{Bor}
@@ -15,6 +15,14 @@ use Rattle.iommufd_script.specs.Digits.{decimal, hexadecimal, bytes_of}
 -- two spaces, or one at an end, have an empty field beside them, which is of no kind
 abbrev pub fields : List ℕ → List (List ℕ)
 fields line = slice_split (λ c. c == 32) line
+
+-- where the first field ends
+abbrev pub field_end : List ℕ → ℕ
+field_end line = position_or_len (λ c. c == 32) line
+
+-- what the first field stands for, and where it ends
+abbrev pub field_value : (List ℕ → Option ℕ) → List ℕ → Option (ℕ × ℕ)
+field_value value line = option_map (λ n. (n, field_end line)) (value (take (field_end line) line))
 
 -- the fields of the part of a line that is left, if one is
 abbrev pub fields_left : Option (Bor (List ℕ)) → List (List ℕ)

@@ -1,9 +1,11 @@
 //! Numbers in digits.
 
-ghost use Rattle.std.specs.Prelude.{◌≡◌, ◌≤◌, ◌^◌, ◌*◌, ◌+◌, ◌&&◌, nat_lt};
+ghost use Rattle.std.specs.Prelude.{◌≡◌, ◌<◌, ◌≤◌, ◌^◌, ◌*◌, ◌+◌, ◌&&◌, nat_lt, length, slice_index_or};
+ghost use Rattle.std.specs.Prelude.{IsFalse, IsTrue};
 ghost use Rattle.std.specs.Prelude.{if◌then◌else◌, Some, None};
 ghost use Rattle.std.specs.Char.{digit_value};
 ghost use Rattle.iommufd_script.specs.Digits.{decimal, hexadecimal};
+ghost use Rattle.iommufd_script.specs.Fields.{field_value};
 
 // The value of each byte as a digit: 0 to 9, then the letters of either case from 10 on; 36 for any other byte.
 static DIGIT_VALUES: [u8; 256] = [
@@ -40,34 +42,56 @@ fn with_decimal(number: u64, c: u8) -> Option<u64>
     number.checked_mul(10)?.checked_add(u64::from(digit))
 }
 
-// The decimal number below 2^64.
-pub fn decimal_u64(text: &[u8]) -> Option<u64>
-    ensures { result ≡ decimal 64 text.now }
+// Whether the first field of the line, which goes up to this place at least, ends there.
+fn is_field_end(line: &[u8], end: usize) -> bool
+    requires { end ≤ length line.now }
+    ensures yes { IsTrue result → end < length line.now → slice_index_or line.now end 0 ≡ 32 }
+    ensures no { IsFalse result → (end < length line.now) × (slice_index_or line.now end 0 ≡ 32 → ⊥) }
 {
-    if text.is_empty() {
+    end == line.len() || line[end] == b' '
+}
+
+// The decimal number below 2^64 that the first field of a line is, and where the field ends.
+pub fn decimal_field(line: &[u8]) -> Option<(u64, usize)>
+    ensures { result ≡ field_value (decimal 64) line.now }
+{
+    let mut number: u64 = 0;
+    let mut end = 0;
+    while end < line.len() && digit_of(line[end]) < 10 {
+        number = with_decimal(number, line[end])?;
+        end += 1;
+    }
+    if end == 0 {
         return None;
     }
-    let mut number: u64 = 0;
-    for c in text {
-        number = with_decimal(number, *c)?;
+    if is_field_end(line, end) {
+        Some((number, end))
+    } else {
+        None
     }
-    Some(number)
 }
 
-// The decimal number below 2^32.
-#[tactic(auto, unfolding(crate::specs::Digits::number_of))]
-pub fn decimal_u32(text: &[u8]) -> Option<u32>
-    ensures { result ≡ decimal 32 text.now }
+// The same of a number of at most 16 hexadecimal digits: behind them the field has to end. It stands apart from its
+// callers, so that its loop keeps no values of theirs.
+#[inline(never)]
+pub fn hexadecimal_field(line: &[u8]) -> Option<(u64, usize)>
+    ensures { result ≡ field_value (hexadecimal 64) line.now }
 {
-    u32::try_from(decimal_u64(text)?).ok()
-}
-
-// The decimal number below 2^16.
-#[tactic(auto, unfolding(crate::specs::Digits::number_of))]
-pub fn decimal_u16(text: &[u8]) -> Option<u16>
-    ensures { result ≡ decimal 16 text.now }
-{
-    u16::try_from(decimal_u64(text)?).ok()
+    let most = line.len().min(16);
+    let mut number: u64 = 0;
+    let mut end = 0;
+    while end < most && digit_of(line[end]) < 16 {
+        number = number * 16 + u64::from(digit_of(line[end]));
+        end += 1;
+    }
+    if end == 0 {
+        return None;
+    }
+    if is_field_end(line, end) {
+        Some((number, end))
+    } else {
+        None
+    }
 }
 
 // The number below 2^64 of at most 16 hexadecimal digits.
@@ -89,14 +113,6 @@ pub fn hexadecimal_u64(text: &[u8]) -> Option<u64>
         number = number * 16 + u64::from(digit);
     }
     Some(number)
-}
-
-// The number below 2^32 of at most 16 hexadecimal digits.
-#[tactic(auto, unfolding(crate::specs::Digits::number_of))]
-pub fn hexadecimal_u32(text: &[u8]) -> Option<u32>
-    ensures { result ≡ hexadecimal 32 text.now }
-{
-    u32::try_from(hexadecimal_u64(text)?).ok()
 }
 
 // The number below 2^16 of at most 16 hexadecimal digits.

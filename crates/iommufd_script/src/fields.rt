@@ -1,8 +1,9 @@
 //! The fields of a line, taken from its front.
 
 ghost use Rattle.std.specs.Prelude.{◌≡◌, ◌==◌, [], ◌∷◌, MatchOption, if◌then◌else◌};
-ghost use Rattle.std.specs.Prelude.{Some, None, length};
-ghost use Rattle.iommufd_script.specs.Fields.{fields, fields_left, purpose_of, width_of, next, Decimal, Hex, Length};
+ghost use Rattle.std.specs.Prelude.{Some, None, length, take};
+ghost use Rattle.iommufd_script.specs.Fields.{field_end, fields, fields_left, purpose_of, width_of, next};
+ghost use Rattle.iommufd_script.specs.Fields.{Decimal, Hex, Length};
 ghost use Rattle.iommufd_script.specs.Fields.{Source, AddressWidth, Bytes, Access, Purpose, Mark, Spans};
 
 use crate::access_bytes::AccessBytes;
@@ -71,22 +72,17 @@ impl<'a> Fields<'a> {
         }
     }
 
-    // A decimal number below 2^16.
-    #[tactic(auto, unfolding(crate::specs::Fields::next))]
-    pub fn decimal_u16(self) -> Option<(u16, Fields<'a>)>
-        ensures { result ≡ next (Decimal 16) self.entry }
+    // The fields behind the first one of a line, which ends here.
+    fn behind(line: &'a [u8], end: usize) -> Fields<'a>
+        requires { end ≡ field_end line.now }
+        ensures { fields line.now ≡ take end line.now ∷ result }
     {
-        let (field, others) = self.split()?;
-        Some((digits::decimal_u16(field)?, others))
-    }
-
-    // A decimal number below 2^32.
-    #[tactic(auto, unfolding(crate::specs::Fields::next))]
-    pub fn decimal_u32(self) -> Option<(u32, Fields<'a>)>
-        ensures { result ≡ next (Decimal 32) self.entry }
-    {
-        let (field, others) = self.split()?;
-        Some((digits::decimal_u32(field)?, others))
+        if end == line.len() {
+            return Fields { rest: None };
+        }
+        Fields {
+            rest: Some(&line[end + 1..]),
+        }
     }
 
     // A decimal number below 2^64.
@@ -94,17 +90,27 @@ impl<'a> Fields<'a> {
     pub fn decimal_u64(self) -> Option<(u64, Fields<'a>)>
         ensures { result ≡ next (Decimal 64) self.entry }
     {
-        let (field, others) = self.split()?;
-        Some((digits::decimal_u64(field)?, others))
+        let line = self.rest?;
+        let (number, end) = digits::decimal_field(line)?;
+        Some((number, Fields::behind(line, end)))
     }
 
-    // A hexadecimal number below 2^32.
-    #[tactic(auto, unfolding(crate::specs::Fields::next))]
-    pub fn hexadecimal_u32(self) -> Option<(u32, Fields<'a>)>
-        ensures { result ≡ next (Hex 32) self.entry }
+    // A decimal number below 2^32.
+    #[tactic(auto, unfolding(crate::specs::Fields::next, crate::specs::Digits::number_of))]
+    pub fn decimal_u32(self) -> Option<(u32, Fields<'a>)>
+        ensures { result ≡ next (Decimal 32) self.entry }
     {
-        let (field, others) = self.split()?;
-        Some((digits::hexadecimal_u32(field)?, others))
+        let (number, others) = self.decimal_u64()?;
+        Some((u32::try_from(number).ok()?, others))
+    }
+
+    // A decimal number below 2^16.
+    #[tactic(auto, unfolding(crate::specs::Fields::next, crate::specs::Digits::number_of))]
+    pub fn decimal_u16(self) -> Option<(u16, Fields<'a>)>
+        ensures { result ≡ next (Decimal 16) self.entry }
+    {
+        let (number, others) = self.decimal_u64()?;
+        Some((u16::try_from(number).ok()?, others))
     }
 
     // A hexadecimal number below 2^64.
@@ -112,8 +118,18 @@ impl<'a> Fields<'a> {
     pub fn hexadecimal_u64(self) -> Option<(u64, Fields<'a>)>
         ensures { result ≡ next (Hex 64) self.entry }
     {
-        let (field, others) = self.split()?;
-        Some((digits::hexadecimal_u64(field)?, others))
+        let line = self.rest?;
+        let (number, end) = digits::hexadecimal_field(line)?;
+        Some((number, Fields::behind(line, end)))
+    }
+
+    // A hexadecimal number below 2^32.
+    #[tactic(auto, unfolding(crate::specs::Fields::next, crate::specs::Digits::number_of))]
+    pub fn hexadecimal_u32(self) -> Option<(u32, Fields<'a>)>
+        ensures { result ≡ next (Hex 32) self.entry }
+    {
+        let (number, others) = self.hexadecimal_u64()?;
+        Some((u32::try_from(number).ok()?, others))
     }
 
     // How many bytes an access has, 1 to 64.
@@ -121,8 +137,7 @@ impl<'a> Fields<'a> {
     pub fn length(self) -> Option<(u8, Fields<'a>)>
         ensures { result ≡ next Length self.entry }
     {
-        let (field, others) = self.split()?;
-        let length = digits::decimal_u64(field)?;
+        let (length, others) = self.decimal_u64()?;
         if length == 0 || length > 64 {
             return None;
         }

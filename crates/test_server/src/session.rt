@@ -1,7 +1,7 @@
 //! Whole sessions, over readers and writers that fail at each of their calls.
 
 use crate::fakes::{Faults, Input, Output};
-use iommufd_cli::{CliFault, InputFault, session};
+use iommufd_cli::{CliFault, InputFault, Served, serve, session};
 use std::alloc::Global;
 use std::io::ErrorKind;
 
@@ -93,6 +93,19 @@ fn ended(
     let mut writer = Output::new(text, writes);
     let end = end_of(alloc, &mut reader, &mut writer);
     (end, writer.calls())
+}
+
+// Whether the lines of the script are written where its server is left to the caller.
+fn is_served(alloc: Global) -> bool {
+    let mut reader = Input::new(SCRIPT, GOOD);
+    let mut writer = Output::new(LINES.as_bytes(), GOOD);
+    let status = serve(alloc, &mut reader, &mut writer, false, &mut Served::new());
+    matches!(status, Ok(0)) && writer.calls() == Some(1)
+}
+
+#[test]
+fn a_server_left_to_the_caller(rt: HostRuntime) {
+    assert!(rt; is_served(rt.alloc()));
 }
 
 // Whether a read that fails at this call ends the session, and nothing is written.

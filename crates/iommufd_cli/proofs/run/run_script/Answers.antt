@@ -1,15 +1,26 @@
+use Rattle.std.proofs.Common.{ap, ◌∙◌}
 use Rattle.std.proofs.lemmas.Result.{on_err_weaker}
+use Rattle.iommufd_core.specs.Server.{Server}
 use Rattle.iommufd_cli.proofs.Written.{begins_run_text, if_ok_weaker, run_text}
 use Rattle.iommufd_cli.proofs.run.run_script.Goals as goal
 
 pub returns-in-Ok-clause-begun : goal.returns-in-Ok-clause-begun
 returns-in-Ok-clause-begun g c =
     on_err_weaker c.run_whole.result
-    (λ h. (h.0, begins_run_text c.args.config.now c.args.steps.now c.args.journal c.in-Ok.core h.0 c.in-Ok.ensures h.1, h.2))
+    (λ h. (
+      h.0,
+      begins_run_text c.args.config.now c.args.steps.now c.args.journal c.insert.result.now h.0
+          (ap (λ (s : Server g.row.A.Denot). s.history) c.insert.ensures.value ∙ c.in-Ok.ensures) h.1,
+      h.2,
+    ))
     c.run_whole.ensures.begun
 
 pub returns-in-Ok-clause-text : goal.returns-in-Ok-clause-text
 returns-in-Ok-clause-text g c =
-    if_ok_weaker c.run_whole.result _ _ (λ status h.
-    (h.0, run_text c.args.config.now c.args.steps.now c.args.journal c.in-Ok.core h.0 status c.in-Ok.ensures h.1, h.2))
+    if_ok_weaker c.run_whole.result _ _ (λ status h. (
+      h.0,
+      run_text c.args.config.now c.args.steps.now c.args.journal c.insert.result.now h.0 status
+          (ap (λ (s : Server g.row.A.Denot). s.history) c.insert.ensures.value ∙ c.in-Ok.ensures) h.1,
+      h.2,
+    ))
     c.run_whole.ensures.text

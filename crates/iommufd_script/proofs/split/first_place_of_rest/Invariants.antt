@@ -1,5 +1,5 @@
 use Rattle.std.proofs.Common.{◌≡◌, ℕ, ◌<◌, ◌≤◌, ◌-◌, get_or, length}
-use Rattle.iommufd_script.proofs.split.first_place.Given as goal
+use Rattle.iommufd_script.proofs.split.first_place_of_rest.Given as goal
 
 abbrev pub invariant-loop-start : goal.invariant-loop-start
 invariant-loop-start l = record {
