@@ -7,14 +7,15 @@ ghost use Rattle.iofd_words.specs.Accesses.{accessed_frame};
 ghost use Rattle.iofd_words.specs.Areas.{area_at};
 ghost use Rattle.iofd_refusals.specs.Checks.{held_access_checks};
 ghost use Rattle.iofd_words.specs.FirstTrue.{first_true};
+ghost use Rattle.iofd_words.specs.Objects.{access_ioas_of};
 ghost use Rattle.iofd_words.specs.Policy.{page_in};
 ghost use Rattle.iofd_words.specs.declared.fault.AccessKind.TheVariants as kinds;
-ghost use Rattle.server_state.specs.Held.{areas_at};
+ghost use Rattle.server_state.specs.Held.{areas_at, objects_in};
 ghost use Rattle.server_state.specs.Seen.{seen};
 ghost use Rattle.server_state.specs.Step.{IsKnown};
 ghost use Rattle.user_memory.specs.Memory.{pinned_frame};
 
-use held_pins::HeldPins;
+use crate::asked::attached_to;
 use iofd_words::{AccessKind, Area, Cause, FileNo, FrameNo, Iova, ObjId, ObjectKind, PAGE_SIZE};
 use object_table::ObjectTable;
 use server_state::accesses::crosses;
@@ -36,6 +37,7 @@ pub(crate) fn refusal<A: Allocator>(
     len: usize,
     kind: AccessKind,
 ) -> Option<Cause>
+    requires { IsKnown state.now }
     ensures { result ≡ first_true (held_access_checks (seen state.now) file id iova len kind) }
 {
     if !state.objects.is_open(file) {
@@ -45,35 +47,56 @@ pub(crate) fn refusal<A: Allocator>(
     else {
         return Some(Cause::Id);
     };
-    if attached.is_none() {
+    let Some(ioas) = attached else {
         return Some(Cause::Unattached);
-    }
+    };
     if crosses(iova.0, len) {
         return Some(Cause::Cross);
     }
-    refusal_by_pins(&state.access_pins, file, id, iova.0, kind)
+    refusal_by_pins(state, file, id, ioas, iova.0, kind)
 }
 
-/// The same of its pins: where one covers the page and is for such an access, which is asked first, nothing refuses it.
+/// The same of the pins of the access object, which is attached to the address space: where one covers the page and is
+/// for such an access, which is asked first, nothing refuses it.
 fn refusal_by_pins<A: Allocator>(
-    pins: &HeldPins<A>,
+    state: &State<A>,
     file: FileNo,
     id: ObjId,
+    ioas: ObjId,
     address: u64,
     kind: AccessKind,
 ) -> Option<Cause>
+    requires known { IsKnown state.now }
+    requires attached { access_ioas_of (objects_in state.now.objects) file id ≡ Some ioas }
     ensures { result ≡ first_true (
-        (Cause.NotHeld, not (is_covered pins.now file id address kinds.Read))
-        ∷ (Cause.Rights, not (is_covered pins.now file id address kind))
+        (Cause.NotHeld, not (is_covered state.now.access_pins file id address kinds.Read))
+        ∷ (Cause.Rights, not (is_covered state.now.access_pins file id address kind))
         ∷ []) }
 {
-    if pins.covers(file, id, address, kind) {
+    if is_covered(state, file, id, ioas, address, kind) {
         return None;
     }
-    if pins.covers(file, id, address, AccessKind::Read) {
+    if is_covered(state, file, id, ioas, address, AccessKind::Read) {
         return Some(Cause::Rights);
     }
     Some(Cause::NotHeld)
+}
+
+/// Whether a pin of the access object, which is attached to the address space, covers the page at the address and is
+/// for such an access. It holds no pin in another address space.
+fn is_covered<A: Allocator>(
+    state: &State<A>,
+    file: FileNo,
+    id: ObjId,
+    ioas: ObjId,
+    address: u64,
+    kind: AccessKind,
+) -> bool
+    requires known { IsKnown state.now }
+    requires attached { access_ioas_of (objects_in state.now.objects) file id ≡ Some ioas }
+    ensures { result ≡ is_covered state.now.access_pins file id address kind }
+{
+    state.access_pins.covers(file, id, ioas, address, kind)
 }
 
 /// The frame at which the page at the address is pinned, if a pin of the access object covers it; None elsewhere, and
@@ -89,7 +112,11 @@ pub fn frame_of<A: Allocator>(
     ensures covered { is_some result ≡ (seen state.now).is_covered file id iova.0 kinds.Read }
     ensures value { IfSome result (λ frame. accessed_frame (seen state.now) file id iova.0 ≡ Some frame) }
 {
-    if !state.access_pins.covers(file, id, iova.0, AccessKind::Read) {
+    let Some(ioas) = attached_to(&state.objects, file, id) else {
+        // It holds no pin.
+        return None;
+    };
+    if !is_covered(state, file, id, ioas, iova.0, AccessKind::Read) {
         return None;
     }
     frame_at(state, file, id, iova.0)

@@ -11,7 +11,7 @@ ghost use Rattle.iofd_words.specs.declared.query.Query.TheVariants as queries;
 ghost use Rattle.server_state.specs.Choice.{IsLooked};
 ghost use Rattle.server_state.specs.Seen.{seen};
 ghost use Rattle.server_state.specs.Shows.{Shows};
-ghost use Rattle.server_state.specs.Step.{IsAsked, IsTidy};
+ghost use Rattle.server_state.specs.Step.{IsAsked, IsKnown, IsTidy};
 
 use crate::held_access;
 use iofd_words::{AccessKind, Answer, Burst, Cause, FileNo, Iova, ObjId, PAGE_SIZE};
@@ -31,6 +31,7 @@ pub fn refusal<A: Allocator>(
     iova: Iova,
     len: u8,
 ) -> Option<Cause>
+    requires { IsKnown state.now }
     ensures { result ≡ first_true (query_checks (seen state.now) (queries.AccessRead file access iova len)) }
 {
     held_access::refusal(

@@ -5,7 +5,7 @@ ghost use Rattle.iofd_refusals.specs.Checks.{access_write_checks};
 ghost use Rattle.iofd_words.specs.FirstTrue.{first_true};
 ghost use Rattle.iofd_words.specs.declared.event.Event.TheVariants as event;
 ghost use Rattle.server_state.specs.Seen.{seen};
-ghost use Rattle.server_state.specs.Step.{IsGranted, Steps};
+ghost use Rattle.server_state.specs.Step.{IsGranted, IsKnown, Steps};
 
 use crate::held_access;
 use iofd_words::{AccessKind, Burst, Cause, FileNo, Iova, ObjId, PAGE_SIZE, Reply};
@@ -26,6 +26,7 @@ pub fn refusal<A: Allocator>(
     iova: Iova,
     bytes: &Burst,
 ) -> Option<Cause>
+    requires { IsKnown state.now }
     ensures { result ≡ first_true (access_write_checks (seen state.now) file id iova bytes.now) }
 {
     held_access::refusal(

@@ -10,7 +10,7 @@ use Rattle.std.proofs.lemmas.Bool.Decides.{nat_tests}
 use Rattle.iofd_words.specs.Bounds.{Bounds}
 use Rattle.iofd_words.specs.declared.numbers.FileNo.{FileNo}
 use Rattle.iofd_words.specs.declared.numbers.ObjId.{ObjId}
-use Rattle.held_pins.specs.Counts.{IsFirstFrom, count_in}
+use Rattle.held_pins.specs.Counts.{IsFirstFrom}
 use Rattle.held_pins.specs.Held.{is_reached, page_cmp, page_in}
 use Rattle.held_pins.specs.declared.keys.PageKey.{PageKey}
 
@@ -128,18 +128,17 @@ module _ (file : FileNo) (object : ObjId) (span : Bounds) where
       to_reached file object span least same_file same_object page_from.below
       (omega (arith, page_to.below, is.to))
 
-  pub none_reached : (rows : _) (least key : PageKey) → IsFirstFrom page_cmp rows start least
-      → is_reached file object span least ≡ false → is_reached file object span key ≡ true
-      → count_in page_cmp rows key ≡ 0
-  none_reached rows least key found misses is = by_count (count_in page_cmp rows key) refl
+  pub none_reached : (count : PageKey → ℕ) (least key : PageKey) → IsFirstFrom page_cmp count start least
+      → is_reached file object span least ≡ false → is_reached file object span key ≡ true → count key ≡ 0
+  none_reached count least key found misses is = by_count (count key) refl
     where
-      by_count : (n : ℕ) → count_in page_cmp rows key ≡ n → n ≡ 0
+      by_count : (n : ℕ) → count key ≡ n → n ≡ 0
       by_count n counted = by_test (nat_lt 0 n) refl
         where
           by_test : (b : Bool) → nat_lt 0 n ≡ b → n ≡ 0
           by_test true some =
               let more : 0 < n = grind (arith, nat_tests) in
-              let many : 0 < count_in page_cmp rows key = omega (arith, more, counted) in
+              let many : 0 < count key = omega (arith, more, counted) in
               let there = reached_test file object span key is in
               let at_least = found.least key (from_start key there) many in
               absurd (different (sym (between least key found.reached at_least there) ∙ misses))
@@ -148,7 +147,7 @@ module _ (file : FileNo) (object : ObjId) (span : Bounds) where
               different same = cc
           by_test false none = grind (arith, nat_tests)
 
-  pub none_from : (rows : _) (key : PageKey)
-      → ((other : PageKey) → IsLeBy page_cmp start other → count_in page_cmp rows other ≡ 0)
-      → is_reached file object span key ≡ true → count_in page_cmp rows key ≡ 0
-  none_from rows key none is = none key (from_start key (reached_test file object span key is))
+  pub none_from : (count : PageKey → ℕ) (key : PageKey)
+      → ((other : PageKey) → IsLeBy page_cmp start other → count other ≡ 0)
+      → is_reached file object span key ≡ true → count key ≡ 0
+  none_from count key none is = none key (from_start key (reached_test file object span key is))

@@ -2,13 +2,12 @@
 use Rattle.std.proofs.Common.{◌≡◌, ℕ, ◌+◌, ◌≤◌, ◌<◌, Bool, true, false, ◌&&◌, ◌==◌, cond, not, refl, ap, sym}
 use Rattle.std.proofs.Common.{◌∙◌, arith}
 use Rattle.std.specs.BTreeMap.{is_at}
-use Rattle.std.specs.Ordering.{bool_cmp}
 use Rattle.std.specs.Prelude.{nat_le, nat_lt}
 use Rattle.std.proofs.lemmas.Bool.{and_parts}
 use Rattle.std.proofs.lemmas.Bool.Decides.{nat_tests}
-use Rattle.held_pins.specs.Held.{at_page, is_from, page_cmp}
+use Rattle.held_pins.specs.Held.{at_page, exchanged, is_from, page_cmp}
 use Rattle.held_pins.specs.declared.keys.PageKey.{PageKey}
-use Rattle.held_pins.proofs.PinKeys.{alike_bools, bools_eq, same_bools, then_eq}
+use Rattle.held_pins.proofs.PinKeys.{alike_bools, page_test, same_bools}
 
 -- once where it is so
 abbrev pub once : Bool → ℕ
@@ -19,21 +18,11 @@ pub one_further : (first key : PageKey) (page : ℕ) → first.page ≤ page
     → once (is_from first (page + 1) key)
     ≡ once (is_from first page key) + once (is_at (page_cmp (at_page first page)) key)
 one_further first key page from =
-    rw same (by_object (first.file == key.file) (first.object == key.object) (first.access == key.access) alike)
+    rw (page_test (at_page first page) key)
+    (by_object (first.file == key.file) (first.object == key.object) (first.access == key.access) alike)
   where
     alike : Bool
     alike = cond first.write key.write (not key.write)
-
-    same : is_at (page_cmp (at_page first page)) key
-        ≡ ((first.file == key.file) && ((first.object == key.object)
-        && ((page == key.page) && ((first.access == key.access) && alike))))
-    same =
-        then_eq first.file key.file _
-        ((first.object == key.object) && ((page == key.page) && ((first.access == key.access) && alike)))
-        (then_eq first.object key.object _ ((page == key.page) && ((first.access == key.access) && alike))
-        (then_eq page key.page _ ((first.access == key.access) && alike)
-        (then_eq first.access key.access (bool_cmp first.write key.write) alike
-        (bools_eq first.write key.write))))
 
     by_number : (from : ℕ) (n : ℕ) → from ≤ page → once (nat_le from n && nat_lt n (page + 1))
         ≡ once (nat_le from n && nat_lt n page) + once (page == n)
@@ -121,3 +110,19 @@ pub at_from : (first : PageKey) (page end : ℕ) → first.page ≤ page → pag
 at_from first page end from below =
     to_test first end (at_page first page)
     (record { file = refl; object = refl; access = refl; write = refl; from = from; below = below })
+
+-- a key with its objects exchanged is from where the other's, exchanged, is
+pub from_exchanged : (first : PageKey) (end : ℕ) (key : PageKey)
+    → is_from first end (exchanged key) ≡ is_from (exchanged first) end key
+from_exchanged first end key =
+    ap
+    (λ (there : Bool). there && cond first.write key.write (not key.write)
+    && (nat_le first.page key.page && nat_lt key.page end))
+    (turned (first.file == key.file) (first.object == key.access) (first.access == key.object))
+  where
+    turned : (f x y : Bool) → (f && x && y) ≡ (f && y && x)
+    turned true true true = refl
+    turned true true false = refl
+    turned true false true = refl
+    turned true false false = refl
+    turned false x y = refl

@@ -7,7 +7,7 @@ use Rattle.std.specs.declared.cmp.Ordering.{Ordering}
 use Rattle.std.specs.declared.cmp.Ordering.TheVariants.{Less, Equal, Greater}
 use Rattle.std.proofs.lemmas.Bool.Decides.{nat_tests}
 use Rattle.std.proofs.lemmas.Map.Lookups.{CmpEqualImpliesEq, exact_pairs, exact_unsigned}
-use Rattle.held_pins.specs.Held.{key_cmp, page_cmp, pin_of}
+use Rattle.held_pins.specs.Held.{exchanged, key_cmp, page_cmp, pin_of}
 use Rattle.held_pins.specs.HeldPins.{is_pin}
 use Rattle.held_pins.specs.declared.keys.PageKey.{PageKey}
 use Rattle.held_pins.specs.declared.keys.PinKey.{PinKey}
@@ -121,6 +121,35 @@ alike_bools false false is = refl
 pub then_eq : (x y : ℕ) (o : Ordering) (later : Bool) → is_eq o ≡ later
     → is_eq (ordering_then (nat_cmp x y) o) ≡ ((x == y) && later)
 then_eq x y o later rest = sym (tied_then (nat_cmp x y) o) ∙ rw (numbers_eq x y, rest) refl
+
+-- pages, field by field
+pub page_test : (a b : PageKey) → is_at (page_cmp a) b
+    ≡ ((a.file == b.file) && ((a.object == b.object)
+    && ((a.page == b.page) && ((a.access == b.access) && cond a.write b.write (not b.write)))))
+page_test a b =
+    let write = cond a.write b.write (not b.write) in
+    then_eq a.file b.file _ ((a.object == b.object) && ((a.page == b.page) && ((a.access == b.access) && write)))
+    (then_eq a.object b.object _ ((a.page == b.page) && ((a.access == b.access) && write))
+    (then_eq a.page b.page _ ((a.access == b.access) && write)
+    (then_eq a.access b.access (bool_cmp a.write b.write) write (bools_eq a.write b.write))))
+
+-- a page is another's with its objects exchanged, where with its own exchanged it is the other
+pub exchanged_is : (a b : PageKey) → is_at (page_cmp a) (exchanged b) ≡ is_at (page_cmp (exchanged a)) b
+exchanged_is a b =
+    page_test a (exchanged b)
+    ∙ ap (λ (rest : Bool). (a.file == b.file) && rest)
+    (turned (a.object == b.access) (a.page == b.page) (a.access == b.object) (cond a.write b.write (not b.write)))
+    ∙ sym (page_test (exchanged a) b)
+  where
+    never : (x : Bool) → (x && false) ≡ false
+    never true = refl
+    never false = refl
+
+    turned : (x p y w : Bool) → (x && (p && (y && w))) ≡ (y && (p && (x && w)))
+    turned true p true w = refl
+    turned true p false w = never p
+    turned false p true w = sym (never p)
+    turned false p false w = refl
 
 regrouped : (x y z : Bool) → (x && (y && z)) ≡ ((x && y) && z)
 regrouped true y z = refl

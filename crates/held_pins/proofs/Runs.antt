@@ -2,18 +2,17 @@
 use Rattle.std.proofs.Common.{◌≡◌, ℕ, ◌+◌, ◌/◌, ◌==◌, true, List, refl, ap, arith}
 use Rattle.std.specs.Bool.{IsTrue}
 use Rattle.std.proofs.lemmas.Bool.Decides.{nat_tests}
-use Rattle.iofd_words.specs.declared.numbers.ObjId.{ObjId}
 use Rattle.held_pins.specs.Counts.{count_in}
 use Rattle.held_pins.specs.Held.{AreAlike, holder_cmp, holder_of, is_from, is_over, is_tallied, page_cmp, page_in}
-use Rattle.held_pins.specs.Held.Tally.{InSpace, OfHolder, Pinned}
+use Rattle.held_pins.specs.Held.Tally.{OfHolder, Pinned}
 use Rattle.held_pins.specs.declared.keys.PageKey.{PageKey}
 use Rattle.held_pins.specs.declared.pin.HeldPin.{HeldPin}
 use Rattle.held_pins.specs.declared.pin_counts.PinCounts.{PinCounts}
 
-pub over_run : (pin : HeldPin) (object : ObjId) (first : PageKey) (end : ℕ)
-    → first ≡ page_in pin.file object pin.span.first pin.access pin.write → end ≡ pin.span.last / 4096 + 1
-    → (key : PageKey) → is_from first end key ≡ is_over object pin key
-over_run pin object first end begins ends key = λ i. is_from (begins i) (ends i) key
+pub over_run : (pin : HeldPin) (first : PageKey) (end : ℕ)
+    → first ≡ page_in pin.file pin.ioas pin.span.first pin.access pin.write → end ≡ pin.span.last / 4096 + 1
+    → (key : PageKey) → is_from first end key ≡ is_over pin key
+over_run pin first end begins ends key = λ i. is_from (begins i) (ends i) key
 
 -- a page there that isn't counted
 abbrev pub Uncounted : List (PageKey × ℕ) → PageKey → ℕ → Type 0
@@ -27,9 +26,8 @@ own_holder pin = rw (itself pin.file.0, itself pin.access.0) refl
     itself : (n : ℕ) → (n == n) ≡ true
     itself n = grind (arith, nat_tests)
 
--- where the counts by address space tell the same, and the others are the same
-pub same_but_spaces : {A : Type 0} (old new : PinCounts A) → new.pages ≡ old.pages → new.holders ≡ old.holders
-    → ((key : PageKey) → count_in page_cmp new.spaces key ≡ count_in page_cmp old.spaces key) → AreAlike new old
-same_but_spaces old new pages holders spaces (Pinned key) = ap (λ rows. count_in page_cmp rows key) pages
-same_but_spaces old new pages holders spaces (InSpace key) = spaces key
-same_but_spaces old new pages holders spaces (OfHolder key) = ap (λ rows. count_in holder_cmp rows key) holders
+-- where pages are counted alike, and the holders are the same
+pub same_holders : {A : Type 0} (old new : PinCounts A) → new.holders ≡ old.holders
+    → ((key : PageKey) → count_in page_cmp new.pages key ≡ count_in page_cmp old.pages key) → AreAlike new old
+same_holders old new holders pages (Pinned key) = pages key
+same_holders old new holders pages (OfHolder key) = ap (λ rows. count_in holder_cmp rows key) holders

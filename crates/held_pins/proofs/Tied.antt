@@ -5,12 +5,11 @@ use Rattle.std.specs.List.{count_by}
 use Rattle.std.specs.Prelude.{nat_lt}
 use Rattle.std.proofs.lemmas.Bool.{and_parts}
 use Rattle.std.proofs.lemmas.Bool.Decides.{nat_tests}
-use Rattle.iofd_words.specs.declared.numbers.ObjId.{ObjId}
 use Rattle.held_pins.specs.Counts.{ArePositive}
-use Rattle.held_pins.specs.Held.{AreMore, AreThere, HaveRoom, IsTied, Lack, Tally, is_any, is_over, is_tallied}
-use Rattle.held_pins.specs.Held.{page_in, pins_of, tally}
+use Rattle.held_pins.specs.Held.{AreMore, AreThere, HaveRoom, IsTied, Lack, Tally, is_over, is_tallied, page_in}
+use Rattle.held_pins.specs.Held.{pins_of, tally}
 use Rattle.held_pins.specs.HeldPins.{HasOneMore, count_of, is_held, is_of, is_pin, is_whole}
-use Rattle.held_pins.specs.Held.Tally.{InSpace, OfHolder, Pinned}
+use Rattle.held_pins.specs.Held.Tally.{OfHolder, Pinned}
 use Rattle.held_pins.specs.declared.keys.HolderKey.{HolderKey}
 use Rattle.held_pins.specs.declared.keys.PageKey.{PageKey}
 use Rattle.held_pins.specs.declared.pin.HeldPin.{HeldPin}
@@ -26,11 +25,11 @@ same_number : (x y : ℕ) → x ≡ y → (x == y) ≡ true
 same_number x y same = grind (arith, nat_tests)
 
 -- whoever covers a page that the pin covers, by the key of its access object, is of this one
-of_same_key : (object other_object : ObjId) (pin other : HeldPin) (key : PageKey) → is_over object pin key ≡ true
-    → is_over other_object other key ≡ true → is_of pin.file pin.access other ≡ true
-of_same_key object other_object pin other key is there =
-    let here = from_test (page_in pin.file object pin.span.first pin.access pin.write) _ key is in
-    let back = from_test (page_in other.file other_object other.span.first other.access other.write) _ key there in
+of_same_key : (pin other : HeldPin) (key : PageKey) → is_over pin key ≡ true → is_over other key ≡ true
+    → is_of pin.file pin.access other ≡ true
+of_same_key pin other key is there =
+    let here = from_test (page_in pin.file pin.ioas pin.span.first pin.access pin.write) _ key is in
+    let back = from_test (page_in other.file other.ioas other.span.first other.access other.write) _ key there in
     rw (
       same_number other.file.0 pin.file.0 (back.file ∙ sym here.file),
       same_number other.access.0 pin.access.0 (back.access ∙ sym here.access),
@@ -38,8 +37,7 @@ of_same_key object other_object pin other key is there =
 
 same_holder : (what : Tally) (pin other : HeldPin) → is_tallied what pin ≡ true → is_tallied what other ≡ true
     → is_of pin.file pin.access other ≡ true
-same_holder (Pinned key) pin other is there = of_same_key pin.access other.access pin other key is there
-same_holder (InSpace key) pin other is there = of_same_key pin.ioas other.ioas pin other key is there
+same_holder (Pinned key) pin other is there = of_same_key pin other key is there
 same_holder (OfHolder key) pin other is there =
     let here = and_parts (pin.file.0 == key.file) (pin.access.0 == key.access) is in
     let back = and_parts (other.file.0 == key.file) (other.access.0 == key.access) there in
@@ -93,8 +91,8 @@ counted_held pins pin test whole held here =
 
 module _ {A : Type 0} where
   pub tied_more : (old new : Rows) (counts counts' : PinCounts A) (pin : HeldPin) → IsTied old counts
-      → HaveRoom is_any counts pin → is_whole pin ≡ true → ArePositive new
-      → HasOneMore (pins_of old) (pins_of new) pin → AreMore is_any counts counts' pin → IsTied new counts'
+      → HaveRoom counts pin → is_whole pin ≡ true → ArePositive new
+      → HasOneMore (pins_of old) (pins_of new) pin → AreMore counts counts' pin → IsTied new counts'
   tied_more old new counts counts' pin tied room whole positive more tallied =
       record {
         positive = positive;
@@ -107,11 +105,11 @@ module _ {A : Type 0} where
       by_holder : (key : HolderKey) (b : Bool) → is_tallied (OfHolder key) pin ≡ b
           → tally counts' (OfHolder key) ≡ tally counts (OfHolder key) + cond b 1 0
           → tally counts' (OfHolder key) ≤ 65535
-      by_holder key true is one = omega (arith, one, room (OfHolder key) refl is)
+      by_holder key true is one = omega (arith, one, room (OfHolder key) is)
       by_holder key false is one = omega (arith, one, tied.few key)
 
   pub tied_less : (old new : Rows) (counts counts' : PinCounts A) (pin : HeldPin) → IsTied old counts
-      → ArePositive new → HasOneMore (pins_of new) (pins_of old) pin → AreMore is_any counts' counts pin
+      → ArePositive new → HasOneMore (pins_of new) (pins_of old) pin → AreMore counts' counts pin
       → IsTied new counts'
   tied_less old new counts counts' pin tied positive more tallied =
       record {
@@ -123,7 +121,7 @@ module _ {A : Type 0} where
 
   -- what was counted and is no longer leaves all tied
   pub tied_again : (old new : Rows) (counts more again : PinCounts A) (pin : HeldPin) → new ≡ old → IsTied old counts
-      → AreMore is_any counts more pin → AreMore is_any again more pin → IsTied new again
+      → AreMore counts more pin → AreMore again more pin → IsTied new again
   tied_again old new counts more again pin same tied there back =
       subst (λ (rows : Rows). IsTied rows again) (sym same)
       (record {
@@ -136,23 +134,23 @@ module _ {A : Type 0} where
   -- ---- what is counted for a pin that may come, and for one that is held
 
   pub room_left : (spans : Rows) (counts : PinCounts A) (pin : HeldPin) → IsTied spans counts
-      → count_of (pins_of spans) pin.file pin.access < 65535 → HaveRoom is_any counts pin
-  room_left spans counts pin tied few what any is =
+      → count_of (pins_of spans) pin.file pin.access < 65535 → HaveRoom counts pin
+  room_left spans counts pin tied few what is =
       let most = count_more (is_tallied what) (is_of pin.file pin.access)
       (λ other there. same_holder what pin other is there) (pins_of spans) in
       omega (arith, tied.tallied what, most, few)
 
   pub held_there : (spans : Rows) (counts : PinCounts A) (pin : HeldPin) → IsTied spans counts
-      → is_held (pins_of spans) pin ≡ true → AreThere is_any counts pin
-  held_there spans counts pin tied held what any is =
+      → is_held (pins_of spans) pin ≡ true → AreThere counts pin
+  held_there spans counts pin tied held what is =
       rw (tied.tallied what) (counted_held (pins_of spans) pin (is_tallied what) tied.whole held is)
 
   -- an equal pin isn't held, where something isn't counted that would be for it
   pub not_held : (spans : Rows) (counts : PinCounts A) (pin : HeldPin) → IsTied spans counts
-      → Lack is_any counts pin → is_held (pins_of spans) pin ≡ false
+      → Lack counts pin → is_held (pins_of spans) pin ≡ false
   not_held spans counts pin tied lacking = by_test (is_held (pins_of spans) pin) refl
     where
       by_test : (b : Bool) → is_held (pins_of spans) pin ≡ b → b ≡ false
       by_test false is = refl
       by_test true is =
-          absurd (omega (arith, lacking.3, held_there spans counts pin tied is lacking.0 refl lacking.2))
+          absurd (omega (arith, lacking.2, held_there spans counts pin tied is lacking.0 lacking.1))

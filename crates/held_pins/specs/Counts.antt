@@ -27,8 +27,8 @@ module _ {K : Type 0} (cmp : K → K → Ordering) where
       (weight : K → ℕ) → ((other : K) → is_at (cmp key) other ≡ true → weight other ≡ weight key)
       → weighed weight more ≡ weighed weight less + weight key
 
-  -- this is the least key that isn't below the given one and is counted
-  pub record IsFirstFrom (rows : List (K × ℕ)) (from key : K) : Type 0 where
-    pub counted : 0 < count_in rows key
+  -- this is the least key that isn't below the given one and is counted, as often as this says of each
+  pub record IsFirstFrom (count : K → ℕ) (from key : K) : Type 0 where
+    pub counted : 0 < count key
     pub reached : IsLeBy cmp from key
-    pub least : (other : K) → IsLeBy cmp from other → 0 < count_in rows other → IsLeBy cmp key other
+    pub least : (other : K) → IsLeBy cmp from other → 0 < count other → IsLeBy cmp key other

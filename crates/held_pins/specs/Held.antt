@@ -1,6 +1,6 @@
 -- How the counts of pins and of their pages belong together.
-pub use Rattle.held_pins.specs.PageOrder.{page_cmp}
-use Rattle.std.specs.Prelude.{ℕ, ◌≡◌, ◌<◌, ◌≤◌, ◌+◌, ◌/◌, Bool, true, false, ◌==◌, ◌&&◌, not, nat_le, nat_lt}
+pub use Rattle.held_pins.specs.PageOrder.{count_exchanged, exchanged, page_cmp}
+use Rattle.std.specs.Prelude.{ℕ, ◌≡◌, ◌<◌, ◌≤◌, ◌+◌, ◌/◌, Bool, ◌==◌, ◌&&◌, not, nat_le, nat_lt}
 use Rattle.std.specs.Prelude.{IsTrue, List, [], ◌∷◌, ◌++◌, replicate, if◌then◌else◌}
 use Rattle.std.specs.List.{count_by}
 use Rattle.std.specs.Ordering.{bool_cmp, nat_cmp, ordering_then}
@@ -81,65 +81,46 @@ is_reached file object span key =
     key.file == file.0 && key.object == object.0 && nat_le (span.first / 4096) key.page
     && nat_le key.page (span.last / 4096)
 
--- the key is of a page that the pin covers, by who holds the pin and for what; the object is this one of the pin's two,
--- its access object or its address space
-abbrev pub is_over : ObjId → HeldPin → PageKey → Bool
-is_over object pin key =
-    is_from (page_in pin.file object pin.span.first pin.access pin.write) (pin.span.last / 4096 + 1) key
+-- the key is of a page that the pin covers, in its address space, by who holds the pin and for what
+abbrev pub is_over : HeldPin → PageKey → Bool
+is_over pin key =
+    is_from (page_in pin.file pin.ioas pin.span.first pin.access pin.write) (pin.span.last / 4096 + 1) key
 
 -- ---- what is counted
 
--- a page by the access object that pinned it; a page by its address space, and then by the access object that pinned
--- it; each of these for writes too or for reads alone; and who holds pins
+-- a page by its address space and the access object that pinned it, for writes too or for reads alone; and who holds
+-- pins
 pub data Tally : Type 0 where
   Pinned : PageKey → Tally
-  InSpace : PageKey → Tally
   OfHolder : HolderKey → Tally
 
 -- how often it is counted
 abbrev pub tally : {A : Type 0} → PinCounts A → Tally → ℕ
 tally counts (Pinned key) = count_in page_cmp counts.pages key
-tally counts (InSpace key) = count_in page_cmp counts.spaces key
 tally counts (OfHolder key) = count_in holder_cmp counts.holders key
 
 -- whether it is counted for this pin
 abbrev pub is_tallied : Tally → HeldPin → Bool
-is_tallied (Pinned key) pin = is_over pin.access pin key
-is_tallied (InSpace key) pin = is_over pin.ioas pin key
+is_tallied (Pinned key) pin = is_over pin key
 is_tallied (OfHolder key) pin = pin.file.0 == key.file && pin.access.0 == key.access
 
--- pages by access object alone
-abbrev pub is_own : Tally → Bool
-is_own (Pinned key) = true
-is_own (InSpace key) = false
-is_own (OfHolder key) = false
-
-abbrev pub is_shared : Tally → Bool
-is_shared what = not (is_own what)
-
-abbrev pub is_any : Tally → Bool
-is_any what = true
-
 module _ {A : Type 0} where
-  -- of all that is one of these, what is counted for the pin is counted less often than can be
-  abbrev pub HaveRoom : (Tally → Bool) → PinCounts A → HeldPin → Type 0
-  HaveRoom part counts pin =
-      (what : Tally) → IsTrue (part what) → IsTrue (is_tallied what pin) → tally counts what < 65535
+  -- what is counted for the pin is counted less often than can be
+  abbrev pub HaveRoom : PinCounts A → HeldPin → Type 0
+  HaveRoom counts pin = (what : Tally) → IsTrue (is_tallied what pin) → tally counts what < 65535
 
-  -- of all that is one of these, what is counted for the pin is counted
-  abbrev pub AreThere : (Tally → Bool) → PinCounts A → HeldPin → Type 0
-  AreThere part counts pin =
-      (what : Tally) → IsTrue (part what) → IsTrue (is_tallied what pin) → 0 < tally counts what
+  -- what is counted for the pin is counted
+  abbrev pub AreThere : PinCounts A → HeldPin → Type 0
+  AreThere counts pin = (what : Tally) → IsTrue (is_tallied what pin) → 0 < tally counts what
 
-  -- of all that is one of these, something is counted for the pin that isn't counted
-  abbrev pub Lack : (Tally → Bool) → PinCounts A → HeldPin → Type 0
-  Lack part counts pin =
-      (what : Tally) × IsTrue (part what) × IsTrue (is_tallied what pin) × (tally counts what ≡ 0)
+  -- something that is counted for the pin isn't counted yet
+  abbrev pub Lack : PinCounts A → HeldPin → Type 0
+  Lack counts pin = (what : Tally) × IsTrue (is_tallied what pin) × (tally counts what ≡ 0)
 
-  -- of all that is one of these, what is counted for the pin is counted once more in the second, and all else as often
-  abbrev pub AreMore : (Tally → Bool) → PinCounts A → PinCounts A → HeldPin → Type 0
-  AreMore part less more pin =
-      (what : Tally) → tally more what ≡ tally less what + (if part what && is_tallied what pin then 1 else 0)
+  -- what is counted for the pin is counted once more in the second, and all else as often
+  abbrev pub AreMore : PinCounts A → PinCounts A → HeldPin → Type 0
+  AreMore less more pin =
+      (what : Tally) → tally more what ≡ tally less what + (if is_tallied what pin then 1 else 0)
 
   abbrev pub AreAlike : PinCounts A → PinCounts A → Type 0
   AreAlike a b = (what : Tally) → tally a what ≡ tally b what

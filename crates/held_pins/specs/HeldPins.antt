@@ -53,6 +53,12 @@ abbrev pub is_covered : List HeldPin → FileNo → ObjId → ℕ → AccessKind
 is_covered pins file access address kind =
     list_any (λ pin. is_of file access pin && holds pin.span address && allows pin.write kind) pins
 
+-- the same of its pins in this address space
+abbrev pub is_covered_in : List HeldPin → FileNo → ObjId → ObjId → ℕ → AccessKind → Bool
+is_covered_in pins file access ioas address kind =
+    list_any (λ pin. is_of file access pin && is_in file ioas pin && holds pin.span address && allows pin.write kind)
+    pins
+
 -- a pin in the address space and the span have an address in common
 abbrev pub are_met : List HeldPin → FileNo → ObjId → Bounds → Bool
 are_met pins file ioas span = list_any (λ pin. is_in file ioas pin && meets pin.span span) pins

@@ -5,7 +5,7 @@ ghost use Rattle.std.specs.BTreeMap.{is_at};
 ghost use Rattle.std.specs.BTreeMap.Range.{IsLeBy};
 ghost use Rattle.std.specs.BTreeSet as set;
 ghost use Rattle.held_pins.specs.Counts.{count_in, IsFirstFrom};
-ghost use Rattle.held_pins.specs.PageOrder.{page_cmp};
+ghost use Rattle.held_pins.specs.PageOrder.{count_exchanged, page_cmp};
 ghost use Rattle.held_pins.specs.declared.keys.PageKey.{PageKey};
 
 use crate::counts::Counts;
@@ -20,8 +20,10 @@ use std::marker::Model;
 #[derive(Drop)]
 pub(crate) struct CountedPages<A: Allocator = Global> {
     counts: Counts<PageKey, A>,
-    // The pages that are counted: another one only where a page is counted first, or no longer.
+    // The pages that are counted: others only where a page is counted first, or no longer.
     order: BTreeSet<PageKey, A>,
+    // The same pages, by keys of which object and access object are exchanged.
+    by_access: BTreeSet<PageKey, A>,
 }
 
 impl<A: Allocator> Model for CountedPages<A> {
@@ -33,7 +35,7 @@ impl<A: Allocator> Model for CountedPages<A> {
 
     ghost view = { λ pages. pages.counts };
 
-    ghost invariant = { λ pages. AreInOrder pages.counts pages.order };
+    ghost invariant = { λ pages. AreInOrder pages.counts pages.order pages.by_access };
 }
 
 impl<A: Allocator> CountedPages<A> {
@@ -46,6 +48,7 @@ impl<A: Allocator> CountedPages<A> {
         CountedPages {
             counts: Counts::new(alloc),
             order: BTreeSet::new(alloc),
+            by_access: BTreeSet::new(alloc),
         }
     }
 
@@ -73,8 +76,14 @@ impl<A: Allocator> CountedPages<A> {
         if self.order.insert(key).is_err() {
             return Err(NoMemory);
         }
+        let exchanged = key.exchanged();
+        if self.by_access.insert(exchanged).is_err() {
+            let _ = self.order.remove(&key);
+            return Err(NoMemory);
+        }
         if self.counts.add_first(key).is_err() {
             let _ = self.order.remove(&key);
+            let _ = self.by_access.remove(&exchanged);
             return Err(NoMemory);
         }
         Ok(())
@@ -88,16 +97,26 @@ impl<A: Allocator> CountedPages<A> {
     {
         if self.counts.remove(key) {
             let _ = self.order.remove(&key);
+            let _ = self.by_access.remove(&key.exchanged());
         }
     }
 
     /// The least page that is counted and isn't below this one.
     pub(crate) fn first_from(&self, key: PageKey) -> Option<PageKey>
-        ensures found { IfSome result (λ least. IsFirstFrom page_cmp self.now key least) }
+        ensures found { IfSome result (λ least. IsFirstFrom page_cmp (count_in page_cmp self.now) key least) }
         ensures none { IfNone result ((other : PageKey) → IsLeBy page_cmp key other
             → count_in page_cmp self.now other ≡ 0) }
     {
         first_in(&self.order, key)
+    }
+
+    /// The same by keys of which object and access object are exchanged: so is this one, and the answer.
+    pub(crate) fn first_by_access(&self, key: PageKey) -> Option<PageKey>
+        ensures found { IfSome result (λ least. IsFirstFrom page_cmp (count_exchanged self.now) key least) }
+        ensures none { IfNone result ((other : PageKey) → IsLeBy page_cmp key other
+            → count_exchanged self.now other ≡ 0) }
+    {
+        first_in(&self.by_access, key)
     }
 }
 

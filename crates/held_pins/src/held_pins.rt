@@ -5,12 +5,12 @@ ghost use Rattle.std.specs.List.{list_all};
 ghost use Rattle.iofd_words.specs.Span.{is_whole_pages};
 ghost use Rattle.iofd_words.specs.declared.numbers.FileNo.{FileNo};
 ghost use Rattle.iofd_words.specs.declared.numbers.ObjId.{ObjId};
-ghost use Rattle.held_pins.specs.HeldPins.{are_met, are_own_met, count_of, holds_some, is_covered, is_held, is_whole};
-ghost use Rattle.held_pins.specs.HeldPins.{HasOneMore};
+ghost use Rattle.held_pins.specs.HeldPins.{are_met, are_own_met, count_of, holds_some, is_covered_in, is_held};
+ghost use Rattle.held_pins.specs.HeldPins.{is_whole, HasOneMore};
 
 use crate::counts::Counts;
 use crate::keys::{HolderKey, PageKey, PinKey, key_of};
-use crate::page_counts::reaches;
+use crate::page_counts::{access_reaches, reaches};
 use crate::pin::HeldPin;
 use crate::pin_counts::PinCounts;
 use iofd_words::{AccessKind, FileNo, NoMemory, ObjId, Span};
@@ -82,16 +82,23 @@ impl<A: Allocator> HeldPins<A> {
         self.spans.count(key_of(&pin)) > 0
     }
 
-    /// Whether some pin of the access object covers the page at this address, in bytes, and is for such accesses:
-    /// each pin is for reads.
-    pub fn covers(&self, file: FileNo, access: ObjId, address: u64, kind: AccessKind) -> bool
-        ensures { result ≡ is_covered self.now file access address kind }
+    /// Whether some pin of the access object in the address space covers the page at this address, in bytes, and is
+    /// for such accesses: each pin is for reads.
+    pub fn covers(
+        &self,
+        file: FileNo,
+        access: ObjId,
+        ioas: ObjId,
+        address: u64,
+        kind: AccessKind,
+    ) -> bool
+        ensures { result ≡ is_covered_in self.now file access ioas address kind }
     {
         let pages = &self.counts.pages;
-        let written = pages.count(PageKey::new(file, access, address, access, true)) > 0;
+        let written = pages.count(PageKey::new(file, ioas, address, access, true)) > 0;
         match kind {
             AccessKind::Read => {
-                written || pages.count(PageKey::new(file, access, address, access, false)) > 0
+                written || pages.count(PageKey::new(file, ioas, address, access, false)) > 0
             }
             AccessKind::Write => written,
         }
@@ -102,14 +109,14 @@ impl<A: Allocator> HeldPins<A> {
     pub fn meets(&self, file: FileNo, ioas: ObjId, span: Span) -> bool
         ensures { result ≡ are_met self.now file ioas span }
     {
-        reaches(&self.counts.spaces, file, ioas, span)
+        reaches(&self.counts.pages, file, ioas, span)
     }
 
     /// Whether some pin of the access object and the span, of addresses in bytes, have an address in common.
     pub fn access_meets(&self, file: FileNo, access: ObjId, span: Span) -> bool
         ensures { result ≡ are_own_met self.now file access span }
     {
-        reaches(&self.counts.pages, file, access, span)
+        access_reaches(&self.counts.pages, file, access, span)
     }
 
     /// Adds the pin, of whole pages. Its only error is want of memory; it comes only where no equal pin is held, and

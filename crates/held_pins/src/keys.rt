@@ -4,7 +4,7 @@ ghost use Rattle.std.specs.Prelude.{◌≡◌, ◌≤◌, ◌++◌};
 ghost use Rattle.std.specs.Hash as fed;
 ghost use Rattle.std.specs.Cmp.Rules.{hashing};
 ghost use Rattle.std.proofs.Common.{rules};
-ghost use Rattle.held_pins.specs.Held.{at_page, holder_of, key_of, is_reached, page_in};
+ghost use Rattle.held_pins.specs.Held.{at_page, exchanged, holder_of, key_of, is_reached, page_in};
 ghost use Rattle.held_pins.specs.Words.{object_word, page_word, pair_word, tag};
 
 use crate::pin::HeldPin;
@@ -22,8 +22,9 @@ pub(crate) struct PinKey {
     pub write: bool,
 }
 
-/// A page of an object of a file, as an access object has pinned it, for writes too or for reads alone. The object is
-/// the address space, or the access object itself. So pages of one object stand side by side, by number.
+/// A page of an address space of a file, its object, as an access object has pinned it, for writes too or for reads
+/// alone. So pages of one address space stand side by side, by number; where the two objects are exchanged, those of
+/// one access object.
 #[derive(Clone, Copy, PartialEq, Eq, PartialOrd, Ord)]
 pub(crate) struct PageKey {
     pub file: u16,
@@ -121,11 +122,11 @@ pub(crate) fn key_of(pin: &HeldPin) -> PinKey
     }
 }
 
-/// The key of the first page of a pin, of its access object or its address space.
-pub(crate) fn first_of(pin: &HeldPin, object: ObjId) -> PageKey
-    ensures { result ≡ page_in pin.now.file object pin.now.span.first pin.now.access pin.now.write }
+/// The key of the first page of a pin.
+pub(crate) fn first_of(pin: &HeldPin) -> PageKey
+    ensures { result ≡ page_in pin.now.file pin.now.ioas pin.now.span.first pin.now.access pin.now.write }
 {
-    PageKey::new(pin.file, object, pin.span.first(), pin.access, pin.write)
+    PageKey::new(pin.file, pin.ioas, pin.span.first(), pin.access, pin.write)
 }
 
 impl HolderKey {
@@ -170,6 +171,19 @@ impl PageKey {
             object: self.object,
             page,
             access: self.access,
+            write: self.write,
+        }
+    }
+
+    /// The key with its object and its access object exchanged.
+    pub(crate) fn exchanged(self) -> PageKey
+        ensures { result ≡ exchanged self }
+    {
+        PageKey {
+            file: self.file,
+            object: self.access,
+            page: self.page,
+            access: self.object,
             write: self.write,
         }
     }

@@ -1,8 +1,8 @@
-//! Pages of objects, counted in spans.
+//! Pages of address spaces, counted in spans.
 
 ghost use Rattle.std.specs.Prelude.{◌≡◌, ◌<◌, ◌≤◌, ◌+◌, ◌/◌, IsTrue, IsFalse, if◌then◌else◌, OnOk, OnErr};
 ghost use Rattle.held_pins.specs.Counts.{count_in};
-ghost use Rattle.held_pins.specs.Held.{is_from, is_reached, page_cmp};
+ghost use Rattle.held_pins.specs.Held.{count_exchanged, is_from, is_reached, page_cmp};
 ghost use Rattle.held_pins.specs.declared.keys.PageKey.{PageKey};
 
 use crate::counted_pages::CountedPages;
@@ -60,23 +60,44 @@ pub(crate) fn remove_pages<A: Allocator + Copy>(
     }
 }
 
-/// Whether a page of the object is counted, by whichever access object and whether for writes too or for reads alone,
-/// at which the span has an address.
+/// Whether a page of the address space is counted, by whichever access object and whether for writes too or for reads
+/// alone, at which the span has an address.
 pub(crate) fn reaches<A: Allocator>(
     counts: &CountedPages<A>,
     file: FileNo,
-    object: ObjId,
+    ioas: ObjId,
     span: Span,
 ) -> bool
-    ensures some { IsTrue result → ((key : PageKey) × IsTrue (is_reached file object span key)
+    ensures some { IsTrue result → ((key : PageKey) × IsTrue (is_reached file ioas span key)
         × (0 < count_in page_cmp counts.now key)) }
-    ensures none { IsFalse result → (key : PageKey) → IsTrue (is_reached file object span key)
+    ensures none { IsFalse result → (key : PageKey) → IsTrue (is_reached file ioas span key)
         → count_in page_cmp counts.now key ≡ 0 }
     ensures ordered { span.first ≤ span.last }
 {
-    let least = PageKey::new(file, object, span.first(), ObjId(0), false);
+    let least = PageKey::new(file, ioas, span.first(), ObjId(0), false);
     match counts.first_from(least) {
-        Some(key) => key.is_reached(file, object, span),
+        Some(key) => key.is_reached(file, ioas, span),
+        None => false,
+    }
+}
+
+/// Whether a page is counted that the access object pinned, in whichever address space and whether for writes too or
+/// for reads alone, at which the span has an address.
+pub(crate) fn access_reaches<A: Allocator>(
+    counts: &CountedPages<A>,
+    file: FileNo,
+    access: ObjId,
+    span: Span,
+) -> bool
+    ensures some { IsTrue result → ((key : PageKey) × IsTrue (is_reached file access span key)
+        × (0 < count_exchanged counts.now key)) }
+    ensures none { IsFalse result → (key : PageKey) → IsTrue (is_reached file access span key)
+        → count_exchanged counts.now key ≡ 0 }
+    ensures ordered { span.first ≤ span.last }
+{
+    let least = PageKey::new(file, access, span.first(), ObjId(0), false);
+    match counts.first_by_access(least) {
+        Some(key) => key.is_reached(file, access, span),
         None => false,
     }
 }

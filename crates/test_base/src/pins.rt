@@ -47,10 +47,10 @@ fn is_so<A: Allocator>(
     held.holds_some(FILE, ACCESS) == some
         && held.meets(FILE, IOAS, span) == read
         && held.access_meets(FILE, ACCESS, span) == read
-        && held.covers(FILE, ACCESS, span.first(), AccessKind::Read) == read
-        && held.covers(FILE, ACCESS, span.last(), AccessKind::Read) == read
-        && held.covers(FILE, ACCESS, span.first(), AccessKind::Write) == write
-        && held.covers(FILE, ACCESS, span.last(), AccessKind::Write) == write
+        && held.covers(FILE, ACCESS, IOAS, span.first(), AccessKind::Read) == read
+        && held.covers(FILE, ACCESS, IOAS, span.last(), AccessKind::Read) == read
+        && held.covers(FILE, ACCESS, IOAS, span.first(), AccessKind::Write) == write
+        && held.covers(FILE, ACCESS, IOAS, span.last(), AccessKind::Write) == write
 }
 
 /// Whether an equal pin comes where another finds no memory, and what stays covered as pins go.

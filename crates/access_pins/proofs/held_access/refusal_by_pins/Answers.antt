@@ -21,8 +21,9 @@ reads_too pins file access address to =
     any_right true b is = refl
     any_right false b is = is
 
-pub returns-then-covers : goal.returns-then-covers
-returns-then-covers g c =
-    let covered : is_covered c.args.pins.now c.args.file c.args.id c.args.address c.args.kind ≡ true =
-    sym c.if-covers.ensures in
-    rw (reads_too c.args.pins.now c.args.file c.args.id c.args.address c.args.kind covered, covered) refl
+pub returns-then-is_covered : goal.returns-then-is_covered
+returns-then-is_covered g c =
+    let pins = c.args.state.now.access_pins in
+    let covered : is_covered pins c.args.file c.args.id c.args.address c.args.kind ≡ true =
+    sym c.if-is_covered.ensures in
+    rw (reads_too pins c.args.file c.args.id c.args.address c.args.kind covered, covered) refl
