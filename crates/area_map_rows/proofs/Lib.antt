@@ -15,3 +15,4 @@ pub mod Removed
 pub mod Numbers
 pub mod LeavingRows
 pub mod LeavingEnds
+pub mod Parts

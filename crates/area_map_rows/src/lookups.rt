@@ -1,6 +1,6 @@
 //! Look-ups in areas by rising start, by binary search for the row and then in it.
 
-ghost use Rattle.std.specs.Prelude.{◌≡◌, ◌+◌, ◌≤◌, drop, filter, find, min, nat_lt, nat_le, length};
+ghost use Rattle.std.specs.Prelude.{◌≡◌, ◌+◌, ◌<◌, ◌≤◌, drop, filter, find, min, nat_lt, nat_le, length};
 ghost use Rattle.std.specs.Prelude.{MatchBool, Some, if◌then◌else◌};
 ghost use Rattle.std.specs.List.{prefix_len};
 ghost use Rattle.std.specs.Option.{option_copied};
@@ -17,8 +17,45 @@ use crate::search;
 use iofd_words::{Area, Span};
 use std::alloc::Allocator;
 
+// For how many areas one is looked at, where a row of them is passed over.
+const PART: usize = 8;
+
+// How many areas there are up to the last of a part, which this place is, if it ends below the address; else none.
+fn part_below(areas: &[Area], place: usize, address: u64) -> usize
+    requires { AreApart areas.now }
+    ensures most { result ≤ 8 }
+    ensures below { 0 < result → place < prefix_len (λ area. nat_lt area.span.last address) areas.now }
+{
+    match areas.get(place) {
+        Some(area) if area.span.last() < address => PART,
+        _ => 0,
+    }
+}
+
+// So many of a row's areas that each ends below the address: all that do but fewer than a part. Three areas are looked
+// at, at once, as of rows (`search.rt`).
+fn parts_below(areas: &[Area], address: u64) -> usize
+    requires { AreApart areas.now }
+    ensures below { result ≤ prefix_len (λ area. nat_lt area.span.last address) areas.now }
+    ensures bound { result ≤ length areas.now }
+{
+    part_below(areas, PART - 1, address)
+        + part_below(areas, 2 * PART - 1, address)
+        + part_below(areas, 3 * PART - 1, address)
+}
+
 /// How many areas end below the address.
 pub fn count_below(areas: &[Area], address: u64) -> usize
+    requires { AreApart areas.now }
+    ensures value { result ≡ prefix_len (λ area. nat_lt area.span.last address) areas.now }
+    ensures bound { result ≤ length areas.now }
+{
+    let passed = parts_below(areas, address);
+    passed + first_below(&areas[passed..], address)
+}
+
+// How many of the first areas end below the address.
+fn first_below(areas: &[Area], address: u64) -> usize
     ensures value { result ≡ prefix_len (λ area. nat_lt area.span.last address) areas.now }
     ensures bound { result ≤ length areas.now }
 {
@@ -41,6 +78,16 @@ pub fn count_until(areas: &[Area], address: u64) -> usize
 
 /// How many areas begin below the address.
 pub fn count_before(areas: &[Area], address: u64) -> usize
+    requires { AreApart areas.now }
+    ensures value { result ≡ prefix_len (λ area. nat_lt area.span.first address) areas.now }
+    ensures bound { result ≤ length areas.now }
+{
+    let passed = parts_below(areas, address);
+    passed + first_before(&areas[passed..], address)
+}
+
+// How many of the first areas begin below the address.
+fn first_before(areas: &[Area], address: u64) -> usize
     ensures value { result ≡ prefix_len (λ area. nat_lt area.span.first address) areas.now }
     ensures bound { result ≤ length areas.now }
 {
@@ -106,6 +153,14 @@ fn first_behind<A: Allocator>(rows: &[Row<A>], below: usize, address: u64) -> Op
 
 // The first of a row's areas that ends at the address or after it.
 fn reaching_in(areas: &[Area], address: u64) -> Option<&Area>
+    requires { AreApart areas.now }
+    ensures { option_copied result ≡ find (λ area. nat_le address area.span.last) areas.now }
+{
+    first_reaching_of(&areas[parts_below(areas, address)..], address)
+}
+
+// The same of any areas.
+fn first_reaching_of(areas: &[Area], address: u64) -> Option<&Area>
     ensures { option_copied result ≡ find (λ area. nat_le address area.span.last) areas.now }
 {
     areas.iter().find(|area| address <= area.span.last())

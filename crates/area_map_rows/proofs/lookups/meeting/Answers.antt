@@ -3,6 +3,8 @@ use Rattle.std.proofs.lemmas.Bool.Decides.{nat_tests}
 use Rattle.std.proofs.lemmas.List.{nil_from_length, take_rest}
 use Rattle.iofd_words.specs.Span.{meets}
 use Rattle.iofd_words.specs.declared.rows.Area.{Area}
+use Rattle.area_map_rows.specs.Rows.{in_rows}
+use Rattle.area_map_rows.proofs.Rows.{apart_left}
 use Rattle.area_map_rows.proofs.Meeting.{meeting_rows}
 use Rattle.area_map_rows.proofs.RowsWithin.{reaching_none}
 use Rattle.area_map_rows.proofs.lookups.meeting.Goals as goal
@@ -32,3 +34,8 @@ returns g c =
     )
     (meeting_rows c.args.span c.args.rows.now others row c.requires.rows c.requires.apart
     (sym value ∙ is))
+
+pub count_below-requires : goal.count_below-requires
+count_below-requires g c =
+    rw c.areas-areas.ensures (apart_left 0 c.in-Some.row.now (in_rows c.in-Some.others.now)
+    (rw c.in-Some.ensures.cases.0 at c.rows_from-rest.ensures.apart))

@@ -2,6 +2,8 @@ use Rattle.std.proofs.Common.{◌∙◌, leb, sym, arith}
 use Rattle.std.proofs.lemmas.Bool.Decides.{nat_tests}
 use Rattle.std.proofs.lemmas.List.{nil_from_length, take_rest}
 use Rattle.iofd_words.specs.declared.rows.Area.{Area}
+use Rattle.area_map_rows.specs.Rows.{in_rows}
+use Rattle.area_map_rows.proofs.Rows.{apart_left}
 use Rattle.area_map_rows.proofs.RowsWithin.{reaching_rows, reaching_none}
 use Rattle.area_map_rows.proofs.lookups.reaching.Goals as goal
 
@@ -24,3 +26,8 @@ returns g c =
     )
     (reaching_rows c.args.address c.args.rows.now others row c.requires.rows c.requires.apart
     (sym (rw c.rows_below.ensures.value at c.rows_from-rest.ensures.value) ∙ is))
+
+pub count_below-requires : goal.count_below-requires
+count_below-requires g c =
+    rw c.areas-areas.ensures (apart_left 0 c.in-Some.row.now (in_rows c.in-Some.others.now)
+    (rw c.in-Some.ensures.cases.0 at c.rows_from-rest.ensures.apart))

@@ -3,6 +3,8 @@ use Rattle.std.proofs.lemmas.Bool.Decides.{nat_tests}
 use Rattle.std.proofs.lemmas.List.{nil_from_length, take_rest}
 use Rattle.iofd_words.specs.Span.{lies_in}
 use Rattle.iofd_words.specs.declared.rows.Area.{Area}
+use Rattle.area_map_rows.specs.Rows.{in_rows}
+use Rattle.area_map_rows.proofs.Rows.{apart_left}
 use Rattle.area_map_rows.proofs.RowsWithin.{within_rows, reaching_none}
 use Rattle.area_map_rows.proofs.lookups.within.Goals as goal
 
@@ -28,3 +30,8 @@ returns g c =
       c.areas-areas.ensures,
     )
     (within_rows c.args.span c.args.rows.now others row c.requires.rows c.requires.apart (sym value ∙ is))
+
+pub count_before-requires : goal.count_before-requires
+count_before-requires g c =
+    rw c.areas-areas.ensures (apart_left 0 c.in-Some.row.now (in_rows c.in-Some.others.now)
+    (rw c.in-Some.ensures.cases.0 at c.rows_from-rest.ensures.apart))
