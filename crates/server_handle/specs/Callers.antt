@@ -1,11 +1,11 @@
--- Callers and devices' ports: which are the same, and what one gives.
+-- What a server's first caller has, and what a caller gives.
 use Rattle.std.specs.Prelude.{◌≡◌, ℕ, ◌+◌, [], ◌∷◌, ◌++◌, length, None}
 use Rattle.std.specs.Arc.{arc_value}
 use Rattle.std.specs.declared.alloc.Global.{Global}
 use Rattle.iofd_words.specs.Settings.{Settings}
-use Rattle.lane_lock.specs.Passes.{AllNew, SamePass, lanes_of}
+use Rattle.lane_lock.specs.Passes.{AllNew, lanes_of}
 use Rattle.shared_iommufd.specs.Limits.{first_outside}
-use Rattle.shared_iommufd.specs.Ports.{KeepsNothing, SamePort, most_of}
+use Rattle.shared_iommufd.specs.Ports.{KeepsNothing, most_of}
 use Rattle.shared_iommufd.specs.Servers.{settings_of}
 use Rattle.shared_iommufd.specs.declared.port_key.PortKey.{PortKey}
 use Rattle.server_handle.specs.Given.{Each}
@@ -25,18 +25,6 @@ pub record IsFirst (settings : Settings) (lanes cache : ℕ) (c : Caller) : Type
   pub keys : length c.keys.items ≡ length settings.devices
   pub most : Each (λ i key. key.cache.pages.cap ≡ cache) c.keys.items
   pub within : first_outside lanes cache ≡ None
-
--- it is a caller of the same server by the same pass, and has the same to give
-pub record SameCaller (c d : Caller) : Type 0 where
-  pub server : d.server ≡ c.server
-  pub pass : SamePass c.pass d.pass
-  pub spare : d.spare ≡ c.spare
-  pub keys : d.keys ≡ c.keys
-
--- it is the port of the same device of the same server, by the same pass, and may keep as many pages
-pub record SameDevice (p q : Device) : Type 0 where
-  pub server : q.server ≡ p.server
-  pub port : SamePort p.port q.port
 
 -- the last pass that the caller had to give is now the other caller's, who is one of the same server
 pub record HasShared (c d other : Caller) : Type 0 where

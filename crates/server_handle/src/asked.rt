@@ -1,14 +1,14 @@
-//! What a caller, or a device's port, is asked by its handle. Each call is a value that says what it does, so that how
-//! a handle is opened for a call, and put back behind it, stands once.
+//! What a server is asked for a caller, by its pass, or for a device, by its port. Each call is a value that says what
+//! it does, so that how a handle is opened for a call, and put back behind it, stands once.
 
 ghost use Rattle.std.specs.Prelude.{◌≡◌, ℕ, List};
-ghost use Rattle.server_handle.specs.declared.caller.Caller.{Caller as Asked};
-ghost use Rattle.server_handle.specs.declared.device.Device.{Device as Port};
+ghost use Rattle.server_handle.specs.Calls.{OfPass, OfPort};
+ghost use Rattle.shared_iommufd.specs.Ports.{IsPortOf};
+ghost use Rattle.shared_iommufd.specs.Servers.{IsPassOf};
 
-use crate::caller::Caller;
 use crate::client::Client;
-use crate::device::Device;
 use crate::handle::Handle;
+use shared_iommufd::{Pass, Port, Server};
 use std::alloc::Global;
 
 /// A call of a caller.
@@ -19,12 +19,14 @@ pub(crate) trait OfCaller: Drop {
     /// Where it may be made.
     ghost may: { Self → Type 0 };
 
-    /// What it does: the caller before, what is told, and the caller after.
-    ghost does: { Self → Asked → Self.Told → Asked → Type 0 };
+    /// What it does: the server, the pass before, what is told, and the pass after.
+    ghost does: { Self → OfPass Self.Told };
 
-    fn ask(self, caller: &mut Caller) -> Self::Told
-        requires { may self }
-        ensures { does self caller.old result caller.new };
+    fn ask(self, server: &Server, pass: &mut Pass) -> Self::Told
+        requires may { may self }
+        requires owned { IsPassOf server.now pass.old }
+        ensures does { does self _ server.now pass.old result pass.new }
+        ensures owned { IsPassOf server.now pass.new };
 }
 
 /// A call of a device's port, which may read into a buffer.
@@ -32,26 +34,29 @@ pub(crate) trait OfDevice: Drop {
     /// What it tells.
     type Told;
 
-    /// What it does: the buffer before and after, the port before, what is told, and the port after.
-    ghost does: { Self → List ℕ → List ℕ → Port → Self.Told → Port → Type 0 };
+    /// What it does: the buffer before and after, the server, the port before, what is told, and the port after.
+    ghost does: { Self → List ℕ → List ℕ → OfPort Self.Told };
 
-    fn ask(self, device: &mut Device, buffer: &mut [u8]) -> Self::Told
-        ensures { does self buffer.old buffer.new device.old result device.new };
+    fn ask(self, server: &Server, port: &mut Port, buffer: &mut [u8]) -> Self::Told
+        requires owned { IsPortOf server.now port.old }
+        ensures does { does self buffer.old buffer.new _ server.now port.old result port.new }
+        ensures owned { IsPortOf server.now port.new };
 }
 
 impl Handle {
     ghost use Rattle.std.specs.Prelude.{IfNone};
+    ghost use Rattle.server_handle.specs.Calls.{ByPass, ByPort};
     ghost use Rattle.server_handle.specs.Handles.{OnCaller, OnDevice};
 
-    // Asks a caller. None where the handle is no caller's.
+    // Asks a caller's server. None where the handle is no caller's.
     pub(crate) fn of_caller<C: OfCaller>(&mut self, alloc: Global, call: C) -> Option<C::Told>
         requires { C.may call }
-        ensures { OnCaller self.old.client result self.new.client (C.does call) }
+        ensures { OnCaller self.old.client result self.new.client (ByPass (C.does call)) }
     {
         match self.take(alloc) {
             Some(mut client) => {
                 let told = match &mut *client {
-                    Client::Caller(caller) => Some(call.ask(caller)),
+                    Client::Caller(caller) => Some(call.ask(&caller.server, &mut caller.pass)),
                     Client::Device(_) | Client::Vacant => None,
                 };
                 *self = Handle::of(client);
@@ -61,20 +66,22 @@ impl Handle {
         }
     }
 
-    // Asks a device's port. None where the handle is no port's; then the buffer stays as it was.
+    // Asks a port's server. None where the handle is no port's; then the buffer stays as it was.
     pub(crate) fn of_device<C: OfDevice>(
         &mut self,
         alloc: Global,
         call: C,
         buffer: &mut [u8],
     ) -> Option<C::Told>
-        ensures asks { OnDevice self.old.client result self.new.client (C.does call buffer.old buffer.new) }
+        ensures asks { OnDevice self.old.client result self.new.client (ByPort (C.does call buffer.old buffer.new)) }
         ensures kept { IfNone result (buffer.new ≡ buffer.old) }
     {
         match self.take(alloc) {
             Some(mut client) => {
                 let told = match &mut *client {
-                    Client::Device(device) => Some(call.ask(device, buffer)),
+                    Client::Device(device) => {
+                        Some(call.ask(&device.server, &mut device.port, buffer))
+                    }
                     Client::Caller(_) | Client::Vacant => None,
                 };
                 *self = Handle::of(client);

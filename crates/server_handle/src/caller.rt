@@ -6,7 +6,7 @@ ghost use Rattle.shared_iommufd.specs.Ports.{IsKeyOf};
 ghost use Rattle.shared_iommufd.specs.Servers.{ArePassesOf, IsPassOf};
 ghost use Rattle.server_handle.specs.Given.{AreKeysOf};
 
-use crate::client::{Client, boxed, put};
+use crate::client::Client;
 use crate::device::{Device, MARGIN};
 use crate::error::GiveError;
 use iofd_words::Config;
@@ -116,7 +116,7 @@ impl Caller {
         if self.spare.is_empty() {
             return Err(GiveError::NoneLeft);
         }
-        let Some((room, server)) = self.room(alloc) else {
+        let Some((mut room, server)) = self.room(alloc) else {
             return Err(GiveError::Memory);
         };
         let pass = last_pass(&self.server, &mut self.spare);
@@ -126,7 +126,8 @@ impl Caller {
             spare: Vec::new(alloc),
             keys: Vec::new(alloc),
         };
-        Ok(put(room, Client::Caller(caller)))
+        *room = Client::Caller(caller);
+        Ok(room)
     }
 
     /// The port of the last device whose key this caller has, by the last of the passes that it has to give. Memory is
@@ -137,7 +138,7 @@ impl Caller {
         if self.keys.is_empty() || self.spare.is_empty() {
             return Err(GiveError::NoneLeft);
         }
-        let Some((room, server)) = self.room(alloc) else {
+        let Some((mut room, server)) = self.room(alloc) else {
             return Err(GiveError::Memory);
         };
         let pass = last_pass(&self.server, &mut self.spare);
@@ -149,16 +150,19 @@ impl Caller {
             port,
             after: MARGIN,
         };
-        Ok(put(room, Client::Device(device)))
+        *room = Client::Device(device);
+        Ok(room)
     }
 
     // Room for another client, and its share of the server; none where there is no memory.
     fn room(&self, alloc: Global) -> Option<(Box<Client>, Arc<Server, Global>)>
         ensures { IfSome result (λ r. arc_value r.1 ≡ arc_value self.now.server) }
     {
-        let room = boxed(alloc, Client::Vacant)?;
-        match self.server.clone() {
-            Ok(server) => Some((room, server)),
+        match Box::new(alloc, Client::Vacant) {
+            Ok(room) => match self.server.clone() {
+                Ok(server) => Some((room, server)),
+                Err(_) => None,
+            },
             Err(_) => None,
         }
     }

@@ -1,53 +1,12 @@
 //! The calls of callers: those of their server that don't wait, by their pass.
 
-ghost use Rattle.std.specs.Prelude.{◌≡◌, false, length};
+ghost use Rattle.std.specs.Prelude.{◌≡◌, false};
 ghost use Rattle.guarded_core.specs.OfPort.{event_of_port, query_of_port};
-ghost use Rattle.server_handle.specs.Calls.{Calls, Looks, Serves, TellsJournal, TellsNotices};
-ghost use Rattle.server_handle.specs.Handles.{GivesPort, GivesShare};
+ghost use Rattle.server_handle.specs.Calls.{CallsBy, LooksBy, ServesBy, TellsJournalBy, TellsNoticesBy};
 
 use crate::asked::OfCaller;
-use crate::caller::Caller;
-use crate::client::Client;
-use crate::error::GiveError;
 use iofd_words::{Act, Answer, CallError, Event, FileNo, NoMemory, ObjId, Query, Span};
-use shared_iommufd::{IoctlAnswer, JournalError, NotNow, Stamp, TryError};
-use std::alloc::Global;
-
-/// Gives a pass to another caller. See `Caller::share`.
-#[derive(Drop)]
-pub(crate) struct Share {
-    pub(crate) alloc: Global,
-}
-
-impl OfCaller for Share {
-    type Told = Result<Box<Client>, GiveError>;
-
-    ghost may = { λ it. Unit {0} };
-
-    ghost does = { λ it c given d. GivesShare c d given };
-
-    fn ask(self, caller: &mut Caller) -> Self::Told {
-        caller.share(self.alloc)
-    }
-}
-
-/// Gives a pass and a key to a port, and tells the number of the device, if there is one. See `Caller::port`.
-#[derive(Drop)]
-pub(crate) struct GivePort {
-    pub(crate) alloc: Global,
-}
-
-impl OfCaller for GivePort {
-    type Told = (usize, Result<Box<Client>, GiveError>);
-
-    ghost may = { λ it. Unit {0} };
-
-    ghost does = { λ it c given d. GivesPort c d given.1 × (given.0 ≡ length c.keys.items) };
-
-    fn ask(self, caller: &mut Caller) -> Self::Told {
-        (caller.keys_left(), caller.port(self.alloc))
-    }
-}
+use shared_iommufd::{IoctlAnswer, JournalError, NotNow, Pass, Server, Stamp, TryError};
 
 /// Applies an event.
 #[derive(Drop)]
@@ -60,14 +19,14 @@ impl OfCaller for Call {
 
     ghost may = { λ it. event_of_port it.event ≡ false };
 
-    ghost does = { λ it. Calls it.event };
+    ghost does = { λ it. CallsBy it.event };
 
-    fn ask(self, caller: &mut Caller) -> Self::Told {
+    fn ask(self, server: &Server, pass: &mut Pass) -> Self::Told {
         let act = Act {
             event: self.event,
             via: None,
         };
-        caller.server.try_call(&mut caller.pass, &act)
+        server.try_call(pass, &act)
     }
 }
 
@@ -82,10 +41,10 @@ impl<'a> OfCaller for Look<'a> {
 
     ghost may = { λ it. query_of_port it.query.now ≡ false };
 
-    ghost does = { λ it. Looks it.query.now };
+    ghost does = { λ it. LooksBy it.query.now };
 
-    fn ask(self, caller: &mut Caller) -> Self::Told {
-        caller.server.try_look(&mut caller.pass, self.query)
+    fn ask(self, server: &Server, pass: &mut Pass) -> Self::Told {
+        server.try_look(pass, self.query)
     }
 }
 
@@ -101,12 +60,10 @@ impl OfCaller for Notices {
 
     ghost may = { λ it. Unit {0} };
 
-    ghost does = { λ it. TellsNotices it.file it.access };
+    ghost does = { λ it. TellsNoticesBy it.file it.access };
 
-    fn ask(self, caller: &mut Caller) -> Self::Told {
-        caller
-            .server
-            .try_notices(&mut caller.pass, self.file, self.access)
+    fn ask(self, server: &Server, pass: &mut Pass) -> Self::Told {
+        server.try_notices(pass, self.file, self.access)
     }
 }
 
@@ -119,10 +76,10 @@ impl OfCaller for Journal {
 
     ghost may = { λ it. Unit {0} };
 
-    ghost does = { λ it. TellsJournal };
+    ghost does = { λ it. TellsJournalBy };
 
-    fn ask(self, caller: &mut Caller) -> Self::Told {
-        caller.server.try_journal(&mut caller.pass)
+    fn ask(self, server: &Server, pass: &mut Pass) -> Self::Told {
+        server.try_journal(pass)
     }
 }
 
@@ -139,11 +96,9 @@ impl<'a> OfCaller for Ioctl<'a> {
 
     ghost may = { λ it. Unit {0} };
 
-    ghost does = { λ it. Serves it.file it.number it.bytes.now };
+    ghost does = { λ it. ServesBy it.file it.number it.bytes.now };
 
-    fn ask(self, caller: &mut Caller) -> Self::Told {
-        caller
-            .server
-            .try_ioctl(&mut caller.pass, self.file, self.number, self.bytes)
+    fn ask(self, server: &Server, pass: &mut Pass) -> Self::Told {
+        server.try_ioctl(pass, self.file, self.number, self.bytes)
     }
 }

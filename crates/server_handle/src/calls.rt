@@ -1,13 +1,10 @@
 //! Calls by handles.
 
-ghost use Rattle.std.specs.Prelude.{◌≡◌, IfErr, IfOk, Some};
-ghost use Rattle.shared_iommufd.specs.Limits.{IsRefusedFor};
-ghost use Rattle.server_handle.specs.Callers.{IsFirst};
-ghost use Rattle.server_handle.specs.Handles.{HasCaller};
+ghost use Rattle.std.specs.Prelude.{◌≡◌};
 
 use crate::caller::Caller;
-use crate::caller_calls::{Call, GivePort, Ioctl, Journal, Look, Notices, Share};
-use crate::client::{Client, boxed};
+use crate::caller_calls::{Call, Ioctl, Journal, Look, Notices};
+use crate::client::Client;
 use crate::device::Access;
 use crate::device_calls::{Read, TakeTurn, Translate, Write};
 use crate::error::{GiveError, OpenError};
@@ -20,32 +17,12 @@ use iofd_words::{
 use shared_iommufd::{ConfigError, IoctlAnswer, JournalError, NotNow, Stamp, TryError};
 use std::alloc::Global;
 
-// The client of a new server's first caller. See `Caller::open`.
-fn opened(
-    alloc: Global,
-    config: &Config,
-    lanes: u16,
-    cache: u16,
-) -> Result<Box<Client>, ConfigError>
-    ensures first { IfOk result (λ it. HasCaller (Some it.value) (IsFirst config.now lanes cache)) }
-    ensures refused { IfErr result (IsRefusedFor lanes cache) }
-{
-    match Caller::open(alloc, config, lanes, cache) {
-        Ok(caller) => match boxed(alloc, Client::Caller(caller)) {
-            Some(client) => Ok(client),
-            None => Err(ConfigError::Memory),
-        },
-        Err(error) => Err(error),
-    }
-}
-
 impl Handle {
-    ghost use Rattle.std.specs.Prelude.{IfNone, None, false, is_some, length};
+    ghost use Rattle.std.specs.Prelude.{IfNone, None, false, is_some};
     ghost use Rattle.guarded_core.specs.OfPort.{event_of_port, query_of_port};
     ghost use Rattle.server_handle.specs.Calls.{Calls, Looks, ReadsBytes, Serves, TakesTurn, TellsNotices};
     ghost use Rattle.server_handle.specs.Calls.{TellsJournal, TranslatesPage, WritesBytes};
-    ghost use Rattle.server_handle.specs.Handles.{GivesDevice, GivesPort, GivesShare};
-    ghost use Rattle.server_handle.specs.Handles.{OnCaller, OnDevice, Opens, Shares};
+    ghost use Rattle.server_handle.specs.Handles.{GivesDevice, OnCaller, OnDevice, Opens, Shares};
 
     /// Opens a server with this configuration, for a handle that is closed. See `Caller::open`.
     pub fn open(
@@ -60,11 +37,14 @@ impl Handle {
         if self.is_open(alloc) {
             return Err(OpenError::Open);
         }
-        match opened(alloc, config, lanes, cache) {
-            Ok(client) => {
-                *self = Handle::of(client);
-                Ok(())
-            }
+        match Caller::open(alloc, config, lanes, cache) {
+            Ok(caller) => match Box::new(alloc, Client::Caller(caller)) {
+                Ok(client) => {
+                    *self = Handle::of(client);
+                    Ok(())
+                }
+                Err(_) => Err(OpenError::Server(ConfigError::Memory)),
+            },
             Err(error) => Err(OpenError::Server(error)),
         }
     }
@@ -76,13 +56,20 @@ impl Handle {
         if other.is_open(alloc) {
             return Err(GiveError::Open);
         }
-        match self.give_share(alloc) {
-            Some(Ok(client)) => {
+        let Some(mut client) = self.take(alloc) else {
+            return Err(GiveError::NoCaller);
+        };
+        let given = match &mut *client {
+            Client::Caller(caller) => caller.share(alloc),
+            Client::Device(_) | Client::Vacant => Err(GiveError::NoCaller),
+        };
+        *self = Handle::of(client);
+        match given {
+            Ok(client) => {
                 *other = Handle::of(client);
                 Ok(())
             }
-            Some(Err(error)) => Err(error),
-            None => Err(GiveError::NoCaller),
+            Err(error) => Err(error),
         }
     }
 
@@ -93,29 +80,21 @@ impl Handle {
         if other.is_open(alloc) {
             return Err(GiveError::Open);
         }
-        match self.give_port(alloc) {
-            Some((number, Ok(client))) => {
+        let Some(mut client) = self.take(alloc) else {
+            return Err(GiveError::NoCaller);
+        };
+        let (number, given) = match &mut *client {
+            Client::Caller(caller) => (caller.keys_left(), caller.port(alloc)),
+            Client::Device(_) | Client::Vacant => (0, Err(GiveError::NoCaller)),
+        };
+        *self = Handle::of(client);
+        match given {
+            Ok(client) => {
                 *other = Handle::of(client);
                 Ok(number)
             }
-            Some((_, Err(error))) => Err(error),
-            None => Err(GiveError::NoCaller),
+            Err(error) => Err(error),
         }
-    }
-
-    // What a caller gives to another.
-    fn give_share(&mut self, alloc: Global) -> Option<Result<Box<Client>, GiveError>>
-        ensures { OnCaller self.old.client result self.new.client (λ c given d. GivesShare c d given) }
-    {
-        self.of_caller(alloc, Share { alloc })
-    }
-
-    // What a caller gives to a port, and the number of the device, if there is one.
-    fn give_port(&mut self, alloc: Global) -> Option<(usize, Result<Box<Client>, GiveError>)>
-        ensures { OnCaller self.old.client result self.new.client (λ c given d.
-            GivesPort c d given.1 × (given.0 ≡ length c.keys.items)) }
-    {
-        self.of_caller(alloc, GivePort { alloc })
     }
 
     /// Applies an event by a caller, as `Server::try_call` does. One that only a port makes isn't allowed. None where

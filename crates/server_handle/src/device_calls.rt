@@ -1,13 +1,13 @@
 //! The calls of devices' ports that don't wait.
 
 ghost use Rattle.std.specs.Prelude.{◌≡◌};
-ghost use Rattle.server_handle.specs.Calls.{ReadsBytes, TakesTurn, TranslatesPage, WritesBytes};
+ghost use Rattle.server_handle.specs.Calls.{ReadsBytesBy, TakesTurnBy, TranslatesPageBy, WritesBytesBy};
 
 use crate::asked::OfDevice;
-use crate::device::{Access, Device};
+use crate::device::Access;
 use crate::turn::Turn;
 use iofd_words::{AccessKind, Iova, NoMemory, Translation};
-use shared_iommufd::{NotNow, Server, Stamp, TryError};
+use shared_iommufd::{NotNow, Port, Server, Stamp, TryError};
 
 /// Makes the record of a turn.
 #[derive(Drop)]
@@ -18,14 +18,13 @@ pub(crate) struct TakeTurn {
 impl OfDevice for TakeTurn {
     type Told = Result<Stamp, TryError<NoMemory>>;
 
-    ghost does = { λ it old new. TakesTurn it.turn };
+    ghost does = { λ it old new. TakesTurnBy it.turn };
 
-    fn ask(self, device: &mut Device, _buffer: &mut [u8]) -> Self::Told {
-        let server: &Server = &device.server;
+    fn ask(self, server: &Server, port: &mut Port, _buffer: &mut [u8]) -> Self::Told {
         match self.turn {
-            Turn::Flush => device.port.try_flush(server),
-            Turn::Attach(pt_id) => device.port.try_attach(server, pt_id),
-            Turn::Detach => device.port.try_detach(server),
+            Turn::Flush => port.try_flush(server),
+            Turn::Attach(pt_id) => port.try_attach(server, pt_id),
+            Turn::Detach => port.try_detach(server),
         }
     }
 }
@@ -39,10 +38,10 @@ pub(crate) struct Read {
 impl OfDevice for Read {
     type Told = Access;
 
-    ghost does = { λ it old new. ReadsBytes it.iova.0 old new };
+    ghost does = { λ it old new. ReadsBytesBy it.iova.0 old new };
 
-    fn ask(self, device: &mut Device, buffer: &mut [u8]) -> Self::Told {
-        let ended = device.port.try_read(&device.server, self.iova, buffer);
+    fn ask(self, server: &Server, port: &mut Port, buffer: &mut [u8]) -> Self::Told {
+        let ended = port.try_read(server, self.iova, buffer);
         Access { ended, last: None }
     }
 }
@@ -57,11 +56,11 @@ pub(crate) struct Write<'a> {
 impl<'a> OfDevice for Write<'a> {
     type Told = Access;
 
-    ghost does = { λ it old new. WritesBytes it.iova.0 it.bytes.now };
+    ghost does = { λ it old new. WritesBytesBy it.iova.0 it.bytes.now };
 
-    fn ask(self, device: &mut Device, _buffer: &mut [u8]) -> Self::Told {
-        let ended = device.port.try_write(&device.server, self.iova, self.bytes);
-        let last = device.port.last();
+    fn ask(self, server: &Server, port: &mut Port, _buffer: &mut [u8]) -> Self::Told {
+        let ended = port.try_write(server, self.iova, self.bytes);
+        let last = port.last();
         Access { ended, last }
     }
 }
@@ -76,11 +75,9 @@ pub(crate) struct Translate {
 impl OfDevice for Translate {
     type Told = Result<Option<Translation>, NotNow>;
 
-    ghost does = { λ it old new. TranslatesPage it.iova.0 it.kind };
+    ghost does = { λ it old new. TranslatesPageBy it.iova.0 it.kind };
 
-    fn ask(self, device: &mut Device, _buffer: &mut [u8]) -> Self::Told {
-        device
-            .port
-            .try_translate(&device.server, self.iova, self.kind)
+    fn ask(self, server: &Server, port: &mut Port, _buffer: &mut [u8]) -> Self::Told {
+        port.try_translate(server, self.iova, self.kind)
     }
 }

@@ -7,7 +7,7 @@ returns c =
     let pass = c.last_pass-pass in
     let key = c.last_key-key in
     let port = c.port-port.ensures in
-    rw c.put.ensures (record {
+    record {
       server = refl;
       pass = refl;
       given = pass.ensures.items ∙ ap (λ p. pass.new.spare.items ++ p ∷ []) (sym port.pass);
@@ -18,4 +18,4 @@ returns c =
       number = ap (λ (d : DeviceNo). d.0) port.device ∙ key.ensures.number;
       most = port.most;
       empty = port.empty;
-    })
+    }
