@@ -1,16 +1,24 @@
 -- What is written in turn.
-use Rattle.std.proofs.Common.{◌≡◌, ℕ, zero, suc, ◌<◌, ◌≤◌, Bool, true, false, Option, Some, None, List, [], ◌∷◌, ◌++◌, length, take}
-use Rattle.std.proofs.Common.{Result, Ok, Err, IfOk, OnErr, OnOk, inl, inr, refl, sym, ◌∙◌, ap, subst, arith}
+use Rattle.std.proofs.Common.{◌≡◌, ℕ, zero, suc, ◌<◌, ◌≤◌, ◌^◌, Bool, true, false, Option, Some, None, List, [], ◌∷◌}
+use Rattle.std.proofs.Common.{◌++◌, length, take, Result, Ok, Err, IfErr, IfOk, MatchResult, OnErr, OnOk, inl, inr}
+use Rattle.std.proofs.Common.{refl, sym, ◌∙◌, ap, subst, arith}
 use Rattle.std.proofs.lemmas.List.{append_assoc, append-nil}
 use Rattle.std.specs.Io.KnownBytes.{Appends}
-use Rattle.std.specs.Option.{IfSome, option_map}
+use Rattle.std.specs.Option.{IfSome, option_map, option_or}
+use Rattle.std.specs.Result.{IsErrAnd}
+use Rattle.std.specs.declared.io.Error.{Error}
 use Rattle.iofd_words.specs.Record.{Record}
 use Rattle.iofd_words.specs.Settings.{Settings}
-use Rattle.iommufd_cli.specs.Failures.{BeginsEnd, BeginsLines, BeginsRunText, BeginsSteps, BeginsText}
+use Rattle.iommufd_cli.specs.Failures.{BeginsEnd, BeginsLines, BeginsRunText, BeginsSteps, BeginsText, IsWithin}
 use Rattle.iommufd_cli.specs.Journal.{EndText}
-use Rattle.iommufd_cli.specs.Output.{IsFront, Writes}
-use Rattle.iommufd_cli.specs.Session.{IsReadText, IsRunText, StepsLines, StepsText}
+use Rattle.iommufd_cli.specs.Leaving.{LeavesServer, last_of_lines, server_of, server_of_begun}
+use Rattle.iommufd_cli.specs.Leaving.{server_of_begun_run, server_of_run}
+use Rattle.iommufd_cli.specs.Output.{IsFinal, IsFront, Writes}
+use Rattle.iommufd_cli.specs.Replies.{line, no_memory_text}
+use Rattle.iommufd_cli.specs.Session.{IsReadText, IsRunText, IsText, StepsLines, StepsText}
 use Rattle.iommufd_cli.specs.Steps.{IsAnswered}
+use Rattle.iommufd_cli.specs.declared.fault.CliFault.{CliFault}
+use Rattle.iommufd_cli.specs.declared.fault.CliFault.TheVariants as fault
 use Rattle.iommufd_core.specs.Server.{Server}
 use Rattle.iommufd_script.specs.Opening.{script_of}
 use Rattle.iommufd_script.specs.declared.line.Step.{Step}
@@ -112,20 +120,24 @@ module _ {A : Type 0} where
         )
 
     -- or a front is written of them all
-    pub begun_more : Writes (λ out. IsFront out (page ++ line)) mid new → Writes (BeginsSteps s steps) old new
+    pub begun_more : Writes (λ out. IsFront out (page ++ line)) mid new
+        → Writes (λ out. (begun : BeginsSteps s steps out) × (after ≡ begun.last)) old new
     begun_more (front, short, more) =
         let (first, out, split, written, lines) = kept in (
           out ++ front,
-          record {
-            first = first ++ step ∷ [];
-            others = others;
-            split = split_on steps first left others step split next;
-            last = after;
-            text = out ++ (page ++ line);
-            lines = subst (λ (l : List ℕ). StepsLines s (first ++ step ∷ []) l after) (append_assoc out page line)
-                (lines_on s now after first step (out ++ page) line lines answered);
-            front = front_behind out front (page ++ line) short;
-          },
+          (
+            record {
+              first = first ++ step ∷ [];
+              others = others;
+              split = split_on steps first left others step split next;
+              last = after;
+              text = out ++ (page ++ line);
+              lines = subst (λ (l : List ℕ). StepsLines s (first ++ step ∷ []) l after) (append_assoc out page line)
+                  (lines_on s now after first step (out ++ page) line lines answered);
+              front = front_behind out front (page ++ line) short;
+            },
+            refl,
+          ),
           appends_more old mid new out front written more,
         )
 
@@ -141,81 +153,109 @@ module _ {A : Type 0} where
         )
 
     -- or a front of it is
-    pub begun_last : Writes (λ out. IsFront out page) mid new → Writes (BeginsSteps s steps) old new
+    pub begun_last : Writes (λ out. IsFront out page) mid new
+        → Writes (λ out. (begun : BeginsSteps s steps out) × (now ≡ begun.last)) old new
     begun_last (front, short, more) =
         let (first, out, split, written, lines) = kept in (
           out ++ front,
-          record {
-            first = first;
-            others = left;
-            split = split;
-            last = now;
-            text = out ++ page;
-            lines = lines;
-            front = front_behind out front page short;
-          },
+          (
+            record {
+              first = first;
+              others = left;
+              split = split;
+              last = now;
+              text = out ++ page;
+              lines = lines;
+              front = front_behind out front page short;
+            },
+            refl,
+          ),
           appends_more old mid new out front written more,
         )
 
+  -- the text of the steps by which this server comes of that one
+  abbrev pub TextTo : Bool → Settings → Server A → List Step → Server A → List ℕ → Type 0
+  TextTo journal settings s steps now out = (text : StepsText journal settings s steps out) × (now ≡ text.last)
+
+  -- and a beginning of it
+  abbrev pub BeginsTo : Bool → Settings → Server A → List Step → Server A → List ℕ → Type 0
+  BeginsTo journal settings s steps now out =
+      (begun : BeginsLines journal settings s steps out) × (now ≡ last_of_lines begun)
+
   -- nothing is asked for behind the lines
   pub plain_text : (settings : Settings) (s now : Server A) (steps : List Step) (out : List ℕ)
-      → StepsLines s steps out now → StepsText false settings s steps out
-  plain_text settings s now steps out lines =
-      record { last = now; lines = out; lines_are = lines; end = []; end_is = refl; out_is = sym (append-nil out) }
+      → StepsLines s steps out now → TextTo false settings s steps now out
+  plain_text settings s now steps out lines = (
+    record { last = now; lines = out; lines_are = lines; end = []; end_is = refl; out_is = sym (append-nil out) },
+    refl,
+  )
 
   -- the journal stands there
   pub journal_text : (settings : Settings) (s now : Server A) (steps : List Step) (out end : List ℕ)
       → StepsLines s steps out now → EndText true settings now.history.records end
-      → StepsText true settings s steps (out ++ end)
+      → TextTo true settings s steps now (out ++ end)
   journal_text settings s now steps out end lines is =
-      record { last = now; lines = out; lines_are = lines; end = end; end_is = is; out_is = refl }
+      (record { last = now; lines = out; lines_are = lines; end = end; end_is = is; out_is = refl }, refl)
 
-  -- or a front of it does
+  -- a front of the first lines is written
+  pub lines_begun : (journal : Bool) (settings : Settings) (s now : Server A) (steps : List Step) (out : List ℕ)
+      (begun : BeginsSteps s steps out) → now ≡ begun.last → BeginsTo journal settings s steps now out
+  lines_begun journal settings s now steps out begun is = (inl begun, is)
+
+  -- or all of them, and a front of the journal
   pub journal_begun : (settings : Settings) (s now : Server A) (steps : List Step) (out front : List ℕ)
       → StepsLines s steps out now → BeginsEnd true settings now.history.records front
-      → BeginsLines true settings s steps (out ++ front)
+      → BeginsTo true settings s steps now (out ++ front)
   journal_begun settings s now steps out front lines (end, is, short) =
-      inr (
-        out ++ end,
-        journal_text settings s now steps out end lines is,
-        (short.0, short.1, ap (λ l. out ++ l) short.2 ∙ sym (append_assoc out front short.0)),
-      )
+      let (text, last) = journal_text settings s now steps out end lines is in
+      let rest_is = ap (λ l. out ++ l) short.2 ∙ sym (append_assoc out front short.0) in
+      (inr (out ++ end, text, (short.0, short.1, rest_is)), last)
 
-  -- a beginning of what is written for a head and steps is one of the script's text
+  -- a beginning of what is written for a head and steps is one of the script's text, and tells the same server
   pub begins_text : (input out : List ℕ) (journal : Bool) (settings : Settings) (steps : List Step)
-      → script_of input ≡ Ok (settings, steps) → BeginsRunText A settings steps journal out
-      → BeginsText A input journal out
-  begins_text input out journal settings steps good begun = elim begun [
-    | inl lines ↦ inr (inl (record { settings = settings; steps = steps; good = good; lines = lines }))
-    | inr front ↦ inr (inr front)
-  ]
+      → script_of input ≡ Ok (settings, steps) → (begun : BeginsRunText A settings steps journal out)
+      → (text : BeginsText A input journal out) × (server_of_begun_run begun ≡ server_of_begun text)
+  begins_text input out journal settings steps good (inl lines) =
+      (inr (inl (record { settings = settings; steps = steps; good = good; lines = lines })), refl)
+  begins_text input out journal settings steps good (inr front) = (inr (inr front), refl)
 
 module _ {A : Type 0} where
-  -- what is written for a head and steps is a text of the script that says them
+  -- what is written for a head and steps is a text of the script that says them, and tells the same server
   pub read_text : (input out : List ℕ) (journal : Bool) (status : ℕ) (settings : Settings) (steps : List Step)
-      → script_of input ≡ Ok (settings, steps) → IsRunText A settings steps journal out status
-      → IsReadText A input journal out status
-  read_text input out journal status settings steps good text = elim text [
-    | inl lines ↦ inr (inl (record {
+      → script_of input ≡ Ok (settings, steps) → (text : IsRunText A settings steps journal out status)
+      → (whole : IsReadText A input journal out status) × (server_of_run text ≡ server_of whole)
+  read_text input out journal status settings steps good (inl lines) = (
+    inr (inl (record {
       settings = settings;
       steps = steps;
       good = good;
       lines = lines.0;
       status_is = lines.1;
-    }))
-    | inr without ↦ inr (inr (without, (settings, steps), good))
-  ]
+    })),
+    refl,
+  )
+  read_text input out journal status settings steps good (inr without) =
+      (inr (inr (without, (settings, steps), good)), refl)
 
-  -- the lines of the steps, from a server on that was just opened, are what is written for a head and steps
-  pub run_text : (settings : Settings) (steps : List Step) (journal : Bool) (s : Server A) (out : List ℕ) (status : ℕ)
-      → s.history ≡ record { settings = settings; records = [] }
-      → StepsText journal settings s steps out × (status ≡ 0) → IsRunText A settings steps journal out status
-  run_text settings steps journal s out status opened text = inl ((s, opened, text.0), text.1)
+  -- and so is what is written for a script whose bytes were read
+  pub whole_text : (input out : List ℕ) (journal : Bool) (status : ℕ)
+      → (text : IsReadText A input journal out status)
+      → (whole : IsText A input journal out status) × (server_of text ≡ server_of whole)
+  whole_text input out journal status (inl bad) = (inl bad, refl)
+  whole_text input out journal status (inr (inl good)) = (inr (inl good), refl)
+  whole_text input out journal status (inr (inr without)) = (inr (inr without.0), refl)
 
-  pub begins_run_text : (settings : Settings) (steps : List Step) (journal : Bool) (s : Server A) (out : List ℕ)
-      → s.history ≡ record { settings = settings; records = [] } → BeginsLines journal settings s steps out
-      → BeginsRunText A settings steps journal out
-  begins_run_text settings steps journal s out opened begun = inl (s, opened, begun)
+  module _ (settings : Settings) (steps : List Step) (journal : Bool) (s last : Server A) (before : Option (Server A))
+      (out : List ℕ) (opened : s.history ≡ record { settings = settings; records = [] }) where
+    -- the lines of the steps, from a server on that was just opened, are what is written for a head and steps
+    pub run_text : (status : ℕ) → (text : StepsText journal settings s steps out) × (status ≡ 0) × (last ≡ text.last)
+        → (whole : IsRunText A settings steps journal out status) × (Some last ≡ option_or (server_of_run whole) before)
+    run_text status (text, good, is) = (inl ((s, opened, text), good), ap Some is)
+
+    pub begins_run_text : BeginsTo journal settings s steps last out
+        → (begun : BeginsRunText A settings steps journal out)
+        × (Some last ≡ option_or (server_of_begun_run begun) before)
+    begins_run_text (begun, is) = (inl (s, opened, begun), ap Some is)
 
 pub if_ok_weaker : {T E : Type 0} (r : Result T E) (P Q : T → Type 0) → ((x : T) → P x → Q x) → IfOk r P → IfOk r Q
 if_ok_weaker (Ok x) P Q more p = more x p
@@ -235,6 +275,76 @@ module _ {A T E : Type 0} where
       → OnErr r (Writes (BeginsEnd true settings records) old new)
   end_begun (Ok x) settings records text old new is written = tt
   end_begun (Err e) settings records text old new is (front, short, written) = (front, (text, is, short), written)
+
+-- ---- told by who serves a session
+
+-- what was written for the bytes that were read is a text of the reader's, where its bytes are known
+pub served_text : {A : Type 0} (known : Option (List ℕ)) (journal : Bool) (bytes items : List ℕ) (status : ℕ)
+    (old new : Option (List ℕ)) (before was after : Option (Server A)) → bytes ≡ items
+    → IfSome known (λ input. items ≡ input) → length items ≤ 2 ^ 24 → was ≡ before
+    → Writes (λ out. (text : IsReadText A bytes journal out status)
+    × (after ≡ option_or (server_of text) was)) old new
+    → IfSome known (λ input. Writes (λ out. (text : IsText A input journal out status) × IsWithin input out status
+    × (after ≡ option_or (server_of text) before)) old new)
+served_text None journal bytes items status old new before was after same read short is text = tt
+served_text {A = A} (Some input) journal bytes items status old new before was after same read short is written =
+    let (out, text, appended) = written in
+    let (text, left) = subst (λ (l : List ℕ). (text : IsReadText A l journal out status)
+    × (after ≡ option_or (server_of text) was)) (same ∙ read) text in
+    let (whole, tells) = whole_text input out journal status text in
+    let left : after ≡ option_or (server_of whole) before =
+    left ∙ ap (λ s. option_or s was) tells ∙ ap (λ s. option_or (server_of whole) s) is in
+    (out, (whole, inl (subst (λ (l : List ℕ). length l ≤ 2 ^ 24) read short), left), appended)
+
+-- and a beginning of it one of the reader's
+pub served_begun : {A : Type 0} (known : Option (List ℕ)) (journal : Bool) (bytes items : List ℕ)
+    (old new : Option (List ℕ)) (before was after : Option (Server A)) (error : Error) → IsFinal error
+    → bytes ≡ items → IfSome known (λ input. items ≡ input) → length items ≤ 2 ^ 24 → was ≡ before
+    → Writes (λ out. (begun : BeginsText A bytes journal out)
+    × (after ≡ option_or (server_of_begun begun) was)) old new
+    → LeavesServer A (fault.Output error) known journal old new before after
+served_begun None journal bytes items old new before was after error final same read short is begun = (final, tt)
+served_begun {A = A} (Some input) journal bytes items old new before was after error final same read short is begun =
+    let (out, begun, appended) = begun in
+    let (begun, left) = subst (λ (l : List ℕ). (begun : BeginsText A l journal out)
+    × (after ≡ option_or (server_of_begun begun) was)) (same ∙ read) begun in
+    let left = left ∙ ap (λ s. option_or (server_of_begun begun) s) is in
+    (final, (out, (begun, inl (subst (λ (l : List ℕ). length l ≤ 2 ^ 24) read short), left), appended))
+
+-- of a script for which there was no memory
+pub unread_begun : {A : Type 0} (known : Option (List ℕ)) (journal : Bool) (told : List ℕ)
+    (old new : Option (List ℕ)) (before : Option (Server A)) (error : Error) → IsFinal error
+    → told ≡ line no_memory_text → Writes (λ out. IsFront out told) old new
+    → LeavesServer A (fault.Output error) known journal old new before before
+unread_begun None journal told old new before error final is begun = (final, tt)
+unread_begun (Some input) journal told old new before error final is (out, front, appended) =
+    let front = subst (λ (text : List ℕ). IsFront out text) is front in
+    (final, (out, (inr (inr front), inr front, refl), appended))
+
+-- what two clauses say of an error together
+pub both_on_err : {T E P : Type 0} {Q R : E → Type 0} (r : Result T E) → ((e : E) → Q e → P → R e) → IfErr r Q
+    → OnErr r P → IfErr r R
+both_on_err (Ok x) both q p = tt
+both_on_err (Err e) both q p = both e q p
+
+-- what is said of an option's value, where that is known
+pub if_some_at : {T : Type 0} (P : T → Type 0) {o : Option T} {x : T} → o ≡ Some x → IfSome o P → P x
+if_some_at P is p = subst (λ o. IfSome o P) is p
+
+-- a status is told as it is, and a fault of the writer as one of the output
+module _ {T : Type 0} where
+  pub told_status : (r : Result T Error) (told : Result T CliFault) (P : T → Type 0)
+      → MatchResult r (λ x. told ≡ Ok x) (λ e. IsErrAnd told (λ f. f ≡ fault.Output e)) → IfOk r P → IfOk told P
+  told_status (Ok x) told P is p = subst (λ t. IfOk t P) (sym is) p
+  told_status (Err e) (Ok x) P is p = absurd is
+  told_status (Err e) (Err f) P is p = tt
+
+  pub told_fault : (r : Result T Error) (told : Result T CliFault) (P : CliFault → Type 0)
+      → MatchResult r (λ x. told ≡ Ok x) (λ e. IsErrAnd told (λ f. f ≡ fault.Output e))
+      → IfErr r (λ e. P (fault.Output e)) → IfErr told P
+  told_fault (Ok x) told P is p = subst (λ t. IfErr t P) (sym is) tt
+  told_fault (Err e) (Ok x) P is p = absurd is
+  told_fault (Err e) (Err f) P is p = subst P (sym is) p
 
 -- ---- reading
 

@@ -7,3 +7,4 @@ pub mod Failures
 pub mod CommandLine
 pub mod Audit
 pub mod Journal
+pub mod Leaving

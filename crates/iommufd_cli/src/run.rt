@@ -2,9 +2,12 @@
 
 ghost use Rattle.std.specs.Prelude.{◌≡◌, ◌++◌, true, IfErr, IfOk, IfSome, OnErr, OnOk};
 ghost use Rattle.std.specs.Io.KnownBytes.{Appends};
+ghost use Rattle.std.specs.Option.{option_or};
 ghost use Rattle.iommufd_cli.specs.Failures.{BeginsEnd, BeginsLines, BeginsRunText, BeginsSteps, BeginsText, IsWithin};
 ghost use Rattle.iommufd_cli.specs.Failures.{Leaves};
 ghost use Rattle.iommufd_cli.specs.Journal.{EndText};
+ghost use Rattle.iommufd_cli.specs.Leaving.{LeavesServer, last_of_lines, server_of, server_of_begun};
+ghost use Rattle.iommufd_cli.specs.Leaving.{server_of_begun_run, server_of_run};
 ghost use Rattle.iommufd_cli.specs.Output.{IsFinal, IsFront, Writes};
 ghost use Rattle.iommufd_cli.specs.Session.{IsReadText, IsRunText, IsText, StepsLines, StepsText};
 ghost use Rattle.iommufd_cli.specs.Steps.{text_of};
@@ -22,6 +25,7 @@ use iommufd_core::Core;
 use iommufd_script::{ScriptError, Steps, read_script};
 use std::alloc::{Allocator, Global};
 use std::io::{self, Read, Write};
+use std::marker::Model;
 
 /// Carries out the script that the reader gives, and writes the line of each step, or one line alone where the
 /// script has a bad line or there is no memory for it. The answer is the exit status: 0, or 1 in those two cases.
@@ -45,21 +49,33 @@ pub fn session<R: Read, W: Write, A: Allocator + Copy>(
     serve(alloc, reader, writer, journal, &mut Served::new())
 }
 
-/// What a session leaves in memory. Letting it go takes two or three hundredths of the session's time, which a program
-/// that ends behind its session spares by `mem::forget`.
+/// What a session leaves in memory, of which a contract sees the server, or that there is none. Letting it go takes two
+/// or three hundredths of the session's time, which a program that ends behind its session spares by `mem::forget`.
 #[derive(Drop)]
 pub struct Served<A: Allocator = Global> {
     server: Option<Core<A>>,
 }
 
+impl<A: Allocator> Model for Served<A> {
+    ghost use Rattle.std.specs.Prelude.{Option};
+    ghost use Rattle.iommufd_core.specs.Server.{Server};
+
+    ghost Value = { Option (Server A) };
+
+    ghost view = { λ s. s.server };
+}
+
 impl<A: Allocator> Served<A> {
     /// Nothing as yet. It takes no memory.
-    pub fn new() -> Served<A> {
+    pub fn new() -> Served<A>
+        ensures { result ≡ None }
+    {
         Served { server: None }
     }
 }
 
-/// Does what `session` does, and leaves its server to the caller, in place of what was there.
+/// Does what `session` does, and leaves its server to the caller, in place of what was there. Where a write fails, that
+/// is the server behind the steps that were carried out. Where none was opened, what was there stays.
 pub fn serve<R: Read, W: Write, A: Allocator + Copy>(
     alloc: A,
     reader: &mut R,
@@ -68,16 +84,16 @@ pub fn serve<R: Read, W: Write, A: Allocator + Copy>(
     served: &mut Served<A>,
 ) -> Result<u8, CliFault>
     ensures text { IfOk result (λ status. IfSome (R.remaining reader.old) (λ input.
-        Writes (λ out. IsText A input journal out status × IsWithin input out status) (W.contents writer.old)
-        (W.contents writer.new))) }
+        Writes (λ out. (text : IsText A input journal out status) × IsWithin input out status
+        × (served.new ≡ option_or (server_of text) served.old)) (W.contents writer.old) (W.contents writer.new))) }
     ensures fault { IfErr result (λ fault.
-        Leaves A fault (R.remaining reader.old) journal (W.contents writer.old) (W.contents writer.new)) }
+        LeavesServer A fault (R.remaining reader.old) journal (W.contents writer.old) (W.contents writer.new)
+        served.old served.new) }
 {
-    let written = match read_all(alloc, reader)? {
-        Some(bytes) => run_text(alloc, &bytes, writer, journal, &mut served.server),
-        None => told(writer, &no_memory_line()),
+    let Some(text) = read_all(alloc, reader)? else {
+        return told(writer, &no_memory_line()).map_err(CliFault::Output);
     };
-    written.map_err(CliFault::Output)
+    run_text(alloc, &text, writer, journal, &mut served.server).map_err(CliFault::Output)
 }
 
 // Carries out a script, given whole, and leaves the server where it is told to.
@@ -89,8 +105,10 @@ fn run_text<W: Write, A: Allocator + Copy>(
     server: &mut Option<Core<A>>,
 ) -> io::Result<u8>
     ensures text { IfOk result (λ status.
-        Writes (λ out. IsReadText A text.now journal out status) (W.contents writer.old) (W.contents writer.new)) }
-    ensures begun { OnErr result (Writes (BeginsText A text.now journal) (W.contents writer.old)
+        Writes (λ out. (told : IsReadText A text.now journal out status)
+        × (server.new ≡ option_or (server_of told) server.old)) (W.contents writer.old) (W.contents writer.new)) }
+    ensures begun { OnErr result (Writes (λ out. (begun : BeginsText A text.now journal out)
+        × (server.new ≡ option_or (server_of_begun begun) server.old)) (W.contents writer.old)
         (W.contents writer.new)) }
     ensures retried { IfErr result IsFinal }
 {
@@ -113,9 +131,10 @@ fn run_script<W: Write, A: Allocator + Copy>(
     server: &mut Option<Core<A>>,
 ) -> io::Result<u8>
     ensures text { IfOk result (λ status.
-        Writes (λ out. IsRunText A config.now steps.old journal out status) (W.contents writer.old)
-        (W.contents writer.new)) }
-    ensures begun { OnErr result (Writes (BeginsRunText A config.now steps.old journal) (W.contents writer.old)
+        Writes (λ out. (text : IsRunText A config.now steps.old journal out status)
+        × (server.new ≡ option_or (server_of_run text) server.old)) (W.contents writer.old) (W.contents writer.new)) }
+    ensures begun { OnErr result (Writes (λ out. (begun : BeginsRunText A config.now steps.old journal out)
+        × (server.new ≡ option_or (server_of_begun_run begun) server.old)) (W.contents writer.old)
         (W.contents writer.new)) }
     ensures retried { IfErr result IsFinal }
 {
@@ -147,10 +166,10 @@ fn run_whole<W: Write, A: Allocator + Copy>(
     journal: bool,
 ) -> io::Result<u8>
     ensures text { IfOk result (λ status.
-        Writes (λ out. StepsText journal config.now core.old steps.old out × (status ≡ 0))
-        (W.contents writer.old) (W.contents writer.new)) }
-    ensures begun { OnErr result (Writes (BeginsLines journal config.now core.old steps.old)
-        (W.contents writer.old) (W.contents writer.new)) }
+        Writes (λ out. (text : StepsText journal config.now core.old steps.old out) × (status ≡ 0)
+        × (core.new ≡ text.last)) (W.contents writer.old) (W.contents writer.new)) }
+    ensures begun { OnErr result (Writes (λ out. (begun : BeginsLines journal config.now core.old steps.old out)
+        × (core.new ≡ last_of_lines begun)) (W.contents writer.old) (W.contents writer.new)) }
     ensures retried { IfErr result IsFinal }
 {
     run_steps(alloc, core, steps, writer)?;
@@ -189,8 +208,8 @@ fn run_steps<W: Write, A: Allocator + Copy>(
 ) -> io::Result<()>
     ensures text { OnOk result (Writes (λ out. StepsLines core.old steps.old out core.new) (W.contents writer.old)
         (W.contents writer.new)) }
-    ensures begun { OnErr result (Writes (λ out. BeginsSteps core.old steps.old out) (W.contents writer.old)
-        (W.contents writer.new)) }
+    ensures begun { OnErr result (Writes (λ out. (begun : BeginsSteps core.old steps.old out)
+        × (core.new ≡ begun.last)) (W.contents writer.old) (W.contents writer.new)) }
     ensures retried { IfErr result IsFinal }
 {
     let mut page = Page::new();
