@@ -1,2 +1,6 @@
+mod Given
+mod Handled
 mod InLimits
+mod Loosened
 mod Rows
+mod Words

@@ -21,14 +21,14 @@ use Rattle.journal_audit_writing.specs.declared.whole.JournalError.{JournalError
 use Rattle.lane_lock.specs.declared.refusal.NotNow.{NotNow}
 use Rattle.guarded_core.specs.declared.try_error.TryError.{TryError}
 use Rattle.shared_iommufd.specs.declared.ioctl_answer.IoctlAnswer.{IoctlAnswer}
-use Rattle.server_handle.specs.Calls.{Calls, Looks, ReadsBytes, Serves, TakesTurn, TellsJournal, TellsNotices}
-use Rattle.server_handle.specs.Calls.{TranslatesPage, WritesBytes}
-use Rattle.server_handle.specs.Handles.{GivesDevice, OnCaller, OnDevice, Opens, Shares}
-use Rattle.server_handle.specs.declared.client.Client.{Client}
-use Rattle.server_handle.specs.declared.device.Access.{Access}
-use Rattle.server_handle.specs.declared.error.GiveError.{GiveError}
-use Rattle.server_handle.specs.declared.error.OpenError.{OpenError}
-use Rattle.server_handle.specs.declared.turn.Turn.{Turn}
+use Rattle.iommufd_c.specs.Calls.{Calls, Looks, ReadsBytes, Serves, TakesTurn, TellsJournal, TellsNotices}
+use Rattle.iommufd_c.specs.Calls.{TranslatesPage, WritesBytes}
+use Rattle.iommufd_c.specs.Handles.{GivesDevice, OnCaller, OnDevice, Opens, Shares}
+use Rattle.iommufd_c.specs.declared.handle.client.Client.{Client}
+use Rattle.iommufd_c.specs.declared.handle.device.Access.{Access}
+use Rattle.iommufd_c.specs.declared.handle.error.GiveError.{GiveError}
+use Rattle.iommufd_c.specs.declared.handle.error.OpenError.{OpenError}
+use Rattle.iommufd_c.specs.declared.handle.turn.Turn.{Turn}
 use Rattle.iommufd_c.specs.Configured.{are_in_limits}
 use Rattle.iommufd_c.specs.Outcomes as tells
 use Rattle.iommufd_c.specs.Statuses as says

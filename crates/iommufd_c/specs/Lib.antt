@@ -1,4 +1,10 @@
+pub mod Callers
+pub mod Calls
 pub mod Configured
 pub mod Exports
+pub mod Given
+pub mod Handles
+pub mod Kept
 pub mod Outcomes
 pub mod Statuses
+pub mod Turns

@@ -18,7 +18,7 @@ use Rattle.guarded_core.specs.declared.try_error.TryError.TheVariants as tried
 use Rattle.shared_iommufd.specs.declared.error.PortCause.{PortCause}
 use Rattle.shared_iommufd.specs.declared.error.PortCause.TheVariants as cause
 use Rattle.shared_iommufd.specs.declared.error.PortError.{PortError}
-use Rattle.server_handle.specs.declared.device.Access.{Access}
+use Rattle.iommufd_c.specs.declared.handle.device.Access.{Access}
 use Rattle.iommufd_c.specs.declared.outcome.Outcome.{Outcome}
 
 -- no record was made, and nothing is answered

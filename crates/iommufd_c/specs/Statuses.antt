@@ -23,11 +23,11 @@ use Rattle.shared_iommufd.specs.declared.error.PortCause.{PortCause}
 use Rattle.shared_iommufd.specs.declared.error.PortCause.TheVariants as cause
 use Rattle.shared_iommufd.specs.declared.error.PortError.{PortError}
 use Rattle.shared_iommufd.specs.declared.ioctl_answer.IoctlAnswer.{IoctlAnswer}
-use Rattle.server_handle.specs.declared.device.Access.{Access}
-use Rattle.server_handle.specs.declared.error.GiveError.{GiveError}
-use Rattle.server_handle.specs.declared.error.GiveError.TheVariants as given
-use Rattle.server_handle.specs.declared.error.OpenError.{OpenError}
-use Rattle.server_handle.specs.declared.error.OpenError.TheVariants as opened
+use Rattle.iommufd_c.specs.declared.handle.device.Access.{Access}
+use Rattle.iommufd_c.specs.declared.handle.error.GiveError.{GiveError}
+use Rattle.iommufd_c.specs.declared.handle.error.GiveError.TheVariants as given
+use Rattle.iommufd_c.specs.declared.handle.error.OpenError.{OpenError}
+use Rattle.iommufd_c.specs.declared.handle.error.OpenError.TheVariants as opened
 
 -- the number below 0
 abbrev pub minus : ℕ → ℤ

@@ -5,11 +5,11 @@ ghost use Rattle.guarded_core.specs.OfPort.{query_of_port};
 ghost use Rattle.iommufd_c.specs.Exports.{AreNoticed, IsAsked, IsCarriedOut, IsJournalled, IsPeeked, IsServedBy};
 ghost use Rattle.iommufd_c.specs.Exports.{back, journal_bytes, over, read_bytes, spans_told};
 
+use crate::handle::{Handle, Ioctl, Journal, Look, Notices};
 use crate::outcome::{Outcome, look_outcome, notices_outcome};
 use crate::spans::{SpanRow, put_spans};
 use crate::status::{EINVAL, ioctl_status, journal_status, look_status, notices_status};
 use iofd_words::{Answer, CallError, FileNo, Iova, NoMemory, ObjId, Query, Span, UserNo};
-use server_handle::Handle;
 use shared_iommufd::{IoctlAnswer, JournalError, NotNow, TryError};
 use std::alloc::Global;
 
@@ -29,7 +29,7 @@ fn ask(alloc: Global, handle: &mut Handle, query: &Query, out: &mut Outcome) -> 
     requires { query_of_port query.now ≡ false }
     ensures { IsAsked query.now handle.old.client result out.new handle.new.client }
 {
-    let told = handle.look(alloc, query);
+    let told = handle.of_caller(alloc, Look { query });
     *out = look_outcome(&told);
     look_status(&told)
 }
@@ -54,7 +54,7 @@ fn peek(
     requires { query_of_port query.now ≡ false }
     ensures { IsPeeked query.now handle.old.client result buffer.old buffer.new out.new handle.new.client }
 {
-    let told = handle.look(alloc, query);
+    let told = handle.of_caller(alloc, Look { query });
     put_read(buffer, &told);
     *out = look_outcome(&told);
     look_status(&told)
@@ -160,7 +160,11 @@ pub extern "C" fn defnulk_raw_notices(
     ensures { AreNoticed (record { 0 = file }) (record { 0 = access }) handle.old.client result spans.old spans.new
         out.new handle.new.client }
 {
-    let told = handle.notices(alloc, FileNo(file), ObjId(access));
+    let call = Notices {
+        file: FileNo(file),
+        access: ObjId(access),
+    };
+    let told = handle.of_caller(alloc, call);
     put_notices(spans, &told);
     *out = notices_outcome(&told);
     notices_status(&told)
@@ -191,7 +195,12 @@ fn serve(
     ensures { IsServedBy file number bytes.now handle.old.client result room.old room.new written.new
         handle.new.client }
 {
-    let told = handle.ioctl(alloc, file, number, bytes);
+    let call = Ioctl {
+        file,
+        number,
+        bytes,
+    };
+    let told = handle.of_caller(alloc, call);
     *written = put_back(room, &told);
     ioctl_status(&told)
 }
@@ -242,7 +251,7 @@ pub extern "C" fn defnulk_raw_journal(
 ) -> i32
     ensures { IsJournalled handle.old.client result room.old room.new written.new handle.new.client }
 {
-    let told = handle.journal(alloc);
+    let told = handle.of_caller(alloc, Journal);
     *written = put_journal(room, &told);
     journal_status(&told)
 }

@@ -4,10 +4,10 @@ ghost use Rattle.std.specs.Prelude.{◌≡◌, ◌==◌, false, not};
 ghost use Rattle.guarded_core.specs.OfPort.{event_of_port};
 ghost use Rattle.iommufd_c.specs.Exports.{IsCalled, IsCalledWith};
 
+use crate::handle::{Call, Handle};
 use crate::outcome::{NOTHING, Outcome, call_outcome};
 use crate::status::{EINVAL, call_status};
 use iofd_words::{Burst, DeviceNo, Event, FileNo, Iova, ObjId, PinRequest, UserNo};
-use server_handle::Handle;
 use std::alloc::Global;
 
 // Applies an event by a caller's handle.
@@ -15,7 +15,7 @@ fn call(alloc: Global, handle: &mut Handle, event: Event, out: &mut Outcome) -> 
     requires { event_of_port event ≡ false }
     ensures { IsCalled event handle.old.client result out.new handle.new.client }
 {
-    let told = handle.call(alloc, event);
+    let told = handle.of_caller(alloc, Call { event });
     *out = call_outcome(&told);
     call_status(&told)
 }

@@ -1,10 +1,11 @@
-//! The server for threads as a static library: thin exports, each of which calls a handle of `server_handle` and says
-//! what it says. The header is `include/defnulk_iommufd.h`.
+//! The server for threads as a static library: thin exports, each of which calls a handle and says what it says. The
+//! header is `include/defnulk_iommufd.h`.
 #![tactic(auto)]
 
 mod callers;
 mod configuring;
 mod events;
+mod handle;
 mod limits;
 mod opening;
 mod outcome;
@@ -15,6 +16,7 @@ mod status;
 mod translated;
 
 pub use configuring::DeviceRow;
+pub use handle::Handle;
 pub use outcome::Outcome;
 pub use reserving::ReservedRow;
 pub use spans::SpanRow;

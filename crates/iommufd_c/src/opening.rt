@@ -6,10 +6,10 @@ ghost use Rattle.iommufd_c.specs.Exports.{IsOpened, IsPortGiven, IsShared};
 ghost use Rattle.iommufd_c.specs.Statuses as spec;
 
 use crate::configuring::{DeviceRow, config_of};
+use crate::handle::Handle;
 use crate::limits::{are_settings_in_limits, is_server_in_limits};
 use crate::reserving::ReservedRow;
 use crate::status::{DONE, EBADF, EBUSY, EINVAL, ENOMEM, give_status, open_status};
-use server_handle::Handle;
 use std::alloc::Global;
 
 /// Opens a server for a handle that is closed: with a pool of so many frames, users with these limits of pinned pages,

@@ -3,8 +3,8 @@
 ghost use Rattle.std.specs.Prelude.{◌≡◌};
 ghost use Rattle.iommufd_c.specs.Outcomes as spec;
 
+use crate::handle::Access;
 use iofd_words::{Answer, CallError, NoMemory, Reply, Span};
-use server_handle::Access;
 use shared_iommufd::{NotNow, PortCause, Stamp, TryError};
 
 /// What a call tells beside its status (`struct defnulk_outcome`).

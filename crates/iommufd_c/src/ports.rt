@@ -1,21 +1,21 @@
 //! Accesses and turns of a device, by its port's handle.
 
 ghost use Rattle.std.specs.Prelude.{◌≡◌};
-ghost use Rattle.server_handle.specs.declared.turn.Turn.TheVariants as turns;
+ghost use Rattle.iommufd_c.specs.declared.handle.turn.Turn.TheVariants as turns;
 ghost use Rattle.iommufd_c.specs.Exports.{IsRead, IsTranslated, IsTurned, IsWritten, kind_of};
 
+use crate::handle::{Handle, Read, TakeTurn, Translate, Turn, Write};
 use crate::outcome::{Outcome, access_outcome, call_outcome};
 use crate::status::{access_status, call_status, translate_status};
 use crate::translated::{TranslationRow, put_translation};
 use iofd_words::{AccessKind, Iova, ObjId};
-use server_handle::{Handle, Turn};
 use std::alloc::Global;
 
 // Takes a device's turn by its port's handle.
 fn take_turn(alloc: Global, handle: &mut Handle, turn: Turn, out: &mut Outcome) -> i32
     ensures { IsTurned turn handle.old.client result out.new handle.new.client }
 {
-    let told = handle.turn(alloc, turn);
+    let told = handle.of_device(alloc, TakeTurn { turn }, &mut []);
     *out = call_outcome(&told);
     call_status(&told)
 }
@@ -70,7 +70,7 @@ pub extern "C" fn defnulk_raw_port_read(
 ) -> i32
     ensures { IsRead iova handle.old.client result buffer.old buffer.new out.new handle.new.client }
 {
-    let access = handle.read(alloc, Iova(iova), buffer);
+    let access = handle.of_device(alloc, Read { iova: Iova(iova) }, buffer);
     *out = access_outcome(buffer.len(), &access);
     access_status(&access)
 }
@@ -86,7 +86,11 @@ pub extern "C" fn defnulk_raw_port_write(
 ) -> i32
     ensures { IsWritten iova bytes.now handle.old.client result out.new handle.new.client }
 {
-    let access = handle.write(alloc, Iova(iova), bytes);
+    let call = Write {
+        iova: Iova(iova),
+        bytes,
+    };
+    let access = handle.of_device(alloc, call, &mut []);
     *out = access_outcome(bytes.len(), &access);
     access_status(&access)
 }
@@ -118,7 +122,11 @@ pub extern "C" fn defnulk_raw_port_translate(
     ensures { IsTranslated iova (kind_of write) handle.old.client result translation.old translation.new
         handle.new.client }
 {
-    let told = handle.translate(alloc, Iova(iova), kind_of(write));
+    let call = Translate {
+        iova: Iova(iova),
+        kind: kind_of(write),
+    };
+    let told = handle.of_device(alloc, call, &mut []);
     put_translation(translation, &told);
     translate_status(&told)
 }

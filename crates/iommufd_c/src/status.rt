@@ -3,8 +3,8 @@
 ghost use Rattle.std.specs.Prelude.{◌≡◌, neg_ℤ, pos};
 ghost use Rattle.iommufd_c.specs.Statuses as spec;
 
+use crate::handle::{Access, GiveError, OpenError};
 use iofd_words::{Answer, CallError, Errno, NoMemory, Reply, Span, Translation};
-use server_handle::{Access, GiveError, OpenError};
 use shared_iommufd::{ConfigError, IoctlAnswer, JournalError, NotNow, PortCause, Stamp, TryError};
 
 pub(crate) const DONE: i32 = 0;

@@ -3,8 +3,8 @@ use Rattle.std.proofs.Common.{subst, sym, true}
 use Rattle.iofd_words.specs.Limits.{first_outside}
 use Rattle.iofd_words.specs.Settings.{Settings}
 use Rattle.shared_iommufd.specs.Limits as server
-use Rattle.server_handle.specs.Handles.{Opens}
-use Rattle.server_handle.specs.declared.client.Client.{Client}
+use Rattle.iommufd_c.specs.Handles.{Opens}
+use Rattle.iommufd_c.specs.declared.handle.client.Client.{Client}
 use Rattle.iommufd_c.specs.Configured.{are_rows, settings_of_rows}
 use Rattle.iommufd_c.proofs.opening.defnulk_raw_open.Goals as goal
 

@@ -1,4 +1,0 @@
-mod Given
-mod Handled
-mod Loosened
-mod Words

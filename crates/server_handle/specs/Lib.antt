@@ -1,6 +1,0 @@
-pub mod Callers
-pub mod Calls
-pub mod Given
-pub mod Handles
-pub mod Kept
-pub mod Turns
