@@ -1,6 +1,16 @@
 mod Again
 mod Begun
+mod ComingFits
+mod Copied
 mod Judged
+mod LackedTables
+mod Lawfully
+mod LeastStarts
+mod ListedPins
+mod Mapped
+mod PageRows
 mod Reached
+mod RefusedRows
+mod SettledNew
 mod Verdicts
 mod Versions

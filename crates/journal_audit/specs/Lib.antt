@@ -1,2 +1,5 @@
 pub mod Next
+pub mod Own
+pub mod Rows
+pub mod Starts
 pub mod Verdict

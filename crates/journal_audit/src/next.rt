@@ -6,9 +6,9 @@ ghost use Rattle.journal_audit.specs.Next.{IsJudged, IsNext, Tells, next_of};
 ghost use Rattle.journal_audit_bytes.specs.Reading.{raw_of};
 ghost use Rattle.journal_audit_world.specs.Kept.{IsKept};
 
+use crate::lawful::step;
 use iofd_words::{Config, NoMemory, Record};
 use journal_audit_bytes::{ReadError, SpelledRecord, Version, read_record, typed_reply};
-use journal_audit_records::step;
 use journal_audit_world::World;
 use std::alloc::Allocator;
 

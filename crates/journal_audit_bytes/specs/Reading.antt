@@ -88,6 +88,19 @@ fields_of_tag rows tag bytes = do
   row ← row_of rows tag
   fields_of_row row bytes
 
+-- the fields of a tag behind the first number, by its row, where that number is read already
+unfoldable pub row_behind : Row → ℕ → List ℕ → Option (Tagged × List ℕ)
+row_behind row first bytes = do
+  numbers ← fields_at (drop 1 row.numbers) bytes
+  list ← tail_at row.list numbers.1
+  some_if (row.allows (first ∷ numbers.0))
+      (record { tag = row.tag; numbers = first ∷ numbers.0; list = list.0 }, list.1)
+
+unfoldable pub fields_behind : List Row → ℕ → ℕ → List ℕ → Option (Tagged × List ℕ)
+fields_behind rows tag first bytes = do
+  row ← row_of rows tag
+  row_behind row first bytes
+
 -- a tag and its fields
 unfoldable pub tagged_at : List Row → List ℕ → Option (Tagged × List ℕ)
 tagged_at rows bytes = do

@@ -1,10 +1,10 @@
-//! The fields of each command, read from the front of bytes, with the bytes after them.
-#![tactic(auto, unfolding(crate::specs::Format::is_kept, crate::specs::Reading::fields_of_tag, crate::specs::Reading::fields_of_row))]
+//! The fields of each command behind its file, read from the front of bytes, with the bytes after them.
+#![tactic(auto, unfolding(crate::specs::Format::is_kept, crate::specs::Reading::fields_behind, crate::specs::Reading::row_behind))]
 
 ghost use Rattle.std.specs.Prelude.{◌≡◌, ◌==◌, ◌&&◌, ◌||◌, nat_lt, option_map};
 ghost use Rattle.iofd_words.specs.Rights.{has_flag};
 ghost use Rattle.journal_audit_bytes.specs.Format.{dirty_event_rows, event_rows};
-ghost use Rattle.journal_audit_bytes.specs.Reading.{Gives, IsWithRanges, OnMemory, fields_of_tag};
+ghost use Rattle.journal_audit_bytes.specs.Reading.{Gives, IsWithRanges, OnMemory, fields_behind, fields_of_tag};
 ghost use Rattle.journal_audit_bytes.specs.Reading.{tagged_event};
 
 use crate::lists::entries_at;
@@ -16,46 +16,35 @@ use iofd_words::{
 };
 use std::alloc::Allocator;
 
-pub fn destroy_at<A: Allocator>(bytes: &[u8]) -> Option<(Event<A>, &[u8])>
-    ensures { fields_of_tag event_rows 0x80 bytes.now ≡ option_map (λ x. (tagged_event x.0, x.1.now)) result }
+pub fn destroy_at<A: Allocator>(file: FileNo, bytes: &[u8]) -> Option<(Event<A>, &[u8])>
+    ensures { fields_behind event_rows 0x80 file.0 bytes.now ≡ option_map (λ x. (tagged_event x.0, x.1.now)) result }
 {
-    let (file, rest) = u16_at(bytes)?;
-    let (id, rest) = u32_at(rest)?;
-    Some((Event::Destroy(FileNo(file), ObjId(id)), rest))
+    let (id, rest) = u32_at(bytes)?;
+    Some((Event::Destroy(file, ObjId(id)), rest))
 }
 
-pub fn ioas_alloc_at<A: Allocator>(bytes: &[u8]) -> Option<(Event<A>, &[u8])>
-    ensures { fields_of_tag event_rows 0x81 bytes.now ≡ option_map (λ x. (tagged_event x.0, x.1.now)) result }
+pub fn unmap_at<A: Allocator>(file: FileNo, bytes: &[u8]) -> Option<(Event<A>, &[u8])>
+    ensures { fields_behind event_rows 0x86 file.0 bytes.now ≡ option_map (λ x. (tagged_event x.0, x.1.now)) result }
 {
-    let (file, rest) = u16_at(bytes)?;
-    Some((Event::IoasAlloc(FileNo(file)), rest))
-}
-
-pub fn unmap_at<A: Allocator>(bytes: &[u8]) -> Option<(Event<A>, &[u8])>
-    ensures { fields_of_tag event_rows 0x86 bytes.now ≡ option_map (λ x. (tagged_event x.0, x.1.now)) result }
-{
-    let (file, rest) = u16_at(bytes)?;
-    let (ioas, rest) = u32_at(rest)?;
+    let (ioas, rest) = u32_at(bytes)?;
     let (iova, rest) = u64_at(rest)?;
     let (length, rest) = u64_at(rest)?;
     let (ioas, iova) = (ObjId(ioas), Iova(iova));
     let request = UnmapRequest { ioas, iova, length };
-    Some((Event::Unmap(FileNo(file), request), rest))
+    Some((Event::Unmap(file, request), rest))
 }
 
-pub fn hwpt_alloc_at<A: Allocator>(bytes: &[u8]) -> Option<(Event<A>, &[u8])>
-    ensures { fields_of_tag event_rows 0x89 bytes.now ≡ option_map (λ x. (tagged_event x.0, x.1.now)) result }
+pub fn hwpt_alloc_at<A: Allocator>(file: FileNo, bytes: &[u8]) -> Option<(Event<A>, &[u8])>
+    ensures { fields_behind event_rows 0x89 file.0 bytes.now ≡ option_map (λ x. (tagged_event x.0, x.1.now)) result }
 {
-    let (file, rest) = u16_at(bytes)?;
-    let (device, rest) = u32_at(rest)?;
+    let (device, rest) = u32_at(bytes)?;
     let (ioas, rest) = u32_at(rest)?;
     let (device, ioas) = (ObjId(device), ObjId(ioas));
-    Some((
-        Event::HwptAlloc(FileNo(file), HwptRequest { device, ioas }),
-        rest,
-    ))
+    Some((Event::HwptAlloc(file, HwptRequest { device, ioas }), rest))
 }
 
+// Ranges alone take memory: it is read from its file on.
+#[tactic(auto, unfolding(crate::specs::Reading::fields_of_tag, crate::specs::Reading::fields_of_row))]
 pub fn allow_iovas_at<A: Allocator>(alloc: A, bytes: &[u8]) -> Result<(Event<A>, &[u8]), ReadError>
     ensures read { Gives (λ x. (tagged_event x.0, x.1.now)) result (fields_of_tag event_rows 0x82 bytes.now) }
     ensures memory { OnMemory result (IsWithRanges event_rows (fields_of_tag event_rows 0x82 bytes.now)) }
@@ -78,11 +67,10 @@ pub fn is_kept(flags: u32, iova: u64) -> bool
     flags < 8 && (MapFlags(flags).is_fixed() || iova == 0)
 }
 
-pub fn map_at<A: Allocator>(bytes: &[u8]) -> Option<(Event<A>, &[u8])>
-    ensures { fields_of_tag event_rows 0x85 bytes.now ≡ option_map (λ x. (tagged_event x.0, x.1.now)) result }
+pub fn map_at<A: Allocator>(file: FileNo, bytes: &[u8]) -> Option<(Event<A>, &[u8])>
+    ensures { fields_behind event_rows 0x85 file.0 bytes.now ≡ option_map (λ x. (tagged_event x.0, x.1.now)) result }
 {
-    let (file, rest) = u16_at(bytes)?;
-    let (flags, rest) = u32_at(rest)?;
+    let (flags, rest) = u32_at(bytes)?;
     let (ioas, rest) = u32_at(rest)?;
     let (user_va, rest) = u64_at(rest)?;
     let (length, rest) = u64_at(rest)?;
@@ -97,14 +85,13 @@ pub fn map_at<A: Allocator>(bytes: &[u8]) -> Option<(Event<A>, &[u8])>
         length,
         iova: Iova(iova),
     };
-    Some((Event::Map(FileNo(file), request), rest))
+    Some((Event::Map(file, request), rest))
 }
 
-pub fn copy_at<A: Allocator>(bytes: &[u8]) -> Option<(Event<A>, &[u8])>
-    ensures { fields_of_tag event_rows 0x83 bytes.now ≡ option_map (λ x. (tagged_event x.0, x.1.now)) result }
+pub fn copy_at<A: Allocator>(file: FileNo, bytes: &[u8]) -> Option<(Event<A>, &[u8])>
+    ensures { fields_behind event_rows 0x83 file.0 bytes.now ≡ option_map (λ x. (tagged_event x.0, x.1.now)) result }
 {
-    let (file, rest) = u16_at(bytes)?;
-    let (flags, rest) = u32_at(rest)?;
+    let (flags, rest) = u32_at(bytes)?;
     let (dst_ioas, rest) = u32_at(rest)?;
     let (src_ioas, rest) = u32_at(rest)?;
     let (length, rest) = u64_at(rest)?;
@@ -121,32 +108,32 @@ pub fn copy_at<A: Allocator>(bytes: &[u8]) -> Option<(Event<A>, &[u8])>
         dst_iova: Iova(dst_iova),
         src_iova: Iova(src_iova),
     };
-    Some((Event::Copy(FileNo(file), request), rest))
+    Some((Event::Copy(file, request), rest))
 }
 
 // ---- of version 2 alone
 
-pub fn dirty_enable_at<A: Allocator>(bytes: &[u8]) -> Option<(Event<A>, &[u8])>
-    ensures { fields_of_tag dirty_event_rows 0xf0 bytes.now ≡ option_map (λ x. (tagged_event x.0, x.1.now)) result }
+pub fn dirty_enable_at<A: Allocator>(file: FileNo, bytes: &[u8]) -> Option<(Event<A>, &[u8])>
+    ensures { fields_behind dirty_event_rows 0xf0 file.0 bytes.now
+        ≡ option_map (λ x. (tagged_event x.0, x.1.now)) result }
 {
-    let (file, rest) = u16_at(bytes)?;
-    let (hwpt, rest) = u32_at(rest)?;
+    let (hwpt, rest) = u32_at(bytes)?;
     let (on, rest) = u8_at(rest)?;
     if on > 1 {
         return None;
     }
     let on = on == 1;
-    Some((Event::DirtyEnable(FileNo(file), ObjId(hwpt), on), rest))
+    Some((Event::DirtyEnable(file, ObjId(hwpt), on), rest))
 }
 
-pub fn dirty_clear_at<A: Allocator>(bytes: &[u8]) -> Option<(Event<A>, &[u8])>
-    ensures { fields_of_tag dirty_event_rows 0xf1 bytes.now ≡ option_map (λ x. (tagged_event x.0, x.1.now)) result }
+pub fn dirty_clear_at<A: Allocator>(file: FileNo, bytes: &[u8]) -> Option<(Event<A>, &[u8])>
+    ensures { fields_behind dirty_event_rows 0xf1 file.0 bytes.now
+        ≡ option_map (λ x. (tagged_event x.0, x.1.now)) result }
 {
-    let (file, rest) = u16_at(bytes)?;
-    let (hwpt, rest) = u32_at(rest)?;
+    let (hwpt, rest) = u32_at(bytes)?;
     let (iova, rest) = u64_at(rest)?;
     let (length, rest) = u64_at(rest)?;
     let (hwpt, iova) = (ObjId(hwpt), Iova(iova));
     let request = DirtyRequest { hwpt, iova, length };
-    Some((Event::DirtyClear(FileNo(file), request), rest))
+    Some((Event::DirtyClear(file, request), rest))
 }

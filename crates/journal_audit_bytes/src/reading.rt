@@ -3,71 +3,95 @@
 ghost use Rattle.std.specs.Prelude.{◌≡◌, ◌≢◌, ◌++◌, List, ℕ, Some, IfOk, option_map};
 ghost use Rattle.journal_audit_bytes.specs.Format.{BeginWithList, Raw, Spells, dirty_event_rows, dirty_reply_rows};
 ghost use Rattle.journal_audit_bytes.specs.Format.{event_rows, events_of, frames, replies_of, reply_rows};
-ghost use Rattle.journal_audit_bytes.specs.Reading.{Gives, IsWithRanges, OnMemory, fields_of_tag, of_frames, raw_of};
-ghost use Rattle.journal_audit_bytes.specs.Reading.{record_at, tagged_at, tagged_event, tagged_reply};
+ghost use Rattle.journal_audit_bytes.specs.Reading.{Gives, IsWithRanges, OnMemory, fields_behind, fields_of_tag};
+ghost use Rattle.journal_audit_bytes.specs.Reading.{of_frames, raw_of, record_at, tagged_at, tagged_event};
+ghost use Rattle.journal_audit_bytes.specs.Reading.{tagged_reply};
 
 use crate::commands::{
-    allow_iovas_at, copy_at, destroy_at, dirty_clear_at, dirty_enable_at, hwpt_alloc_at,
-    ioas_alloc_at, map_at, unmap_at,
+    allow_iovas_at, copy_at, destroy_at, dirty_clear_at, dirty_enable_at, hwpt_alloc_at, map_at,
+    unmap_at,
 };
 use crate::lists::frames_at;
 use crate::numbers::{u8_at, u16_at, u32_at, u64_at};
 use crate::spelled::{ReadError, SpelledRecord, SpelledReply};
 use crate::steps::{
-    access_attach_at, access_create_at, access_detach_at, access_pin_at, access_unpin_at,
-    access_write_at, attach_at, bind_at, close_at, detach_at, device_write_at, flush_at, unbind_at,
-    user_map_at, user_unmap_at, user_write_at,
+    access_attach_at, access_detach_at, access_pin_at, access_unpin_at, access_write_at, attach_at,
+    bind_at, device_write_at, unbind_at, user_map_at, user_unmap_at, user_write_at,
 };
 use crate::version::Version;
-use iofd_words::{Event, PassNo};
+use iofd_words::{DeviceNo, Event, FileNo, PassNo, UserNo};
 use std::alloc::Allocator;
 
-// The event of a tag that either version has, other than that with ranges, by the fields at the front.
-#[tactic(auto, unfolding(crate::specs::Reading::fields_of_tag))]
-fn plain_event_of_tag<A: Allocator>(tag: u8, bytes: &[u8]) -> Option<(Event<A>, &[u8])>
+// The event of a tag that either version has, other than that with ranges, by the fields behind the first.
+#[tactic(auto, unfolding(crate::specs::Reading::fields_behind, crate::specs::Reading::row_behind))]
+fn plain_event_behind<A: Allocator>(tag: u8, first: u16, bytes: &[u8]) -> Option<(Event<A>, &[u8])>
     requires { tag ≢ 0x82 }
-    ensures { fields_of_tag event_rows tag bytes.now ≡ option_map (λ x. (tagged_event x.0, x.1.now)) result }
+    ensures { fields_behind event_rows tag first bytes.now ≡ option_map (λ x. (tagged_event x.0, x.1.now)) result }
 {
+    let (file, user, device) = (FileNo(first), UserNo(first), DeviceNo(first));
     match tag {
-        0x01 => close_at(bytes),
-        0x02 => user_map_at(bytes),
-        0x03 => user_unmap_at(bytes),
-        0x04 => user_write_at(bytes),
-        0x05 => bind_at(bytes),
-        0x06 => unbind_at(bytes),
-        0x07 => attach_at(bytes),
-        0x08 => detach_at(bytes),
-        0x09 => flush_at(bytes),
-        0x0a => device_write_at(bytes),
-        0x0b => access_create_at(bytes),
-        0x0c => access_attach_at(bytes),
-        0x0d => access_detach_at(bytes),
-        0x0e => access_pin_at(bytes),
-        0x0f => access_unpin_at(bytes),
-        0x10 => access_write_at(bytes),
-        0x80 => destroy_at(bytes),
-        0x81 => ioas_alloc_at(bytes),
-        0x83 => copy_at(bytes),
-        0x85 => map_at(bytes),
-        0x86 => unmap_at(bytes),
-        0x89 => hwpt_alloc_at(bytes),
+        0x01 => Some((Event::Close(file), bytes)),
+        0x02 => user_map_at(user, bytes),
+        0x03 => user_unmap_at(user, bytes),
+        0x04 => user_write_at(user, bytes),
+        0x05 => bind_at(file, bytes),
+        0x06 => unbind_at(file, bytes),
+        0x07 => attach_at(device, bytes),
+        0x08 => Some((Event::Detach(device), bytes)),
+        0x09 => Some((Event::Flush(device), bytes)),
+        0x0a => device_write_at(device, bytes),
+        0x0b => Some((Event::AccessCreate(file), bytes)),
+        0x0c => access_attach_at(file, bytes),
+        0x0d => access_detach_at(file, bytes),
+        0x0e => access_pin_at(file, bytes),
+        0x0f => access_unpin_at(file, bytes),
+        0x10 => access_write_at(file, bytes),
+        0x80 => destroy_at(file, bytes),
+        0x81 => Some((Event::IoasAlloc(file), bytes)),
+        0x83 => copy_at(file, bytes),
+        0x85 => map_at(file, bytes),
+        0x86 => unmap_at(file, bytes),
+        0x89 => hwpt_alloc_at(file, bytes),
         _ => None,
     }
 }
 
 // The event of a tag that version 2 alone has.
-#[tactic(auto, unfolding(crate::specs::Reading::fields_of_tag))]
-fn dirty_event_of_tag<A: Allocator>(tag: u8, bytes: &[u8]) -> Option<(Event<A>, &[u8])>
-    ensures { fields_of_tag dirty_event_rows tag bytes.now ≡ option_map (λ x. (tagged_event x.0, x.1.now)) result }
+#[tactic(auto, unfolding(crate::specs::Reading::fields_behind))]
+fn dirty_event_behind<A: Allocator>(tag: u8, first: u16, bytes: &[u8]) -> Option<(Event<A>, &[u8])>
+    ensures { fields_behind dirty_event_rows tag first bytes.now
+        ≡ option_map (λ x. (tagged_event x.0, x.1.now)) result }
 {
     match tag {
-        0xf0 => dirty_enable_at(bytes),
-        0xf1 => dirty_clear_at(bytes),
+        0xf0 => dirty_enable_at(FileNo(first), bytes),
+        0xf1 => dirty_clear_at(FileNo(first), bytes),
         _ => None,
     }
 }
 
-// The event of a tag of the version, other than that with ranges.
+// The event of a tag of the version, other than that with ranges, by the fields behind the first.
+fn event_behind<A: Allocator>(
+    version: Version,
+    tag: u8,
+    first: u16,
+    bytes: &[u8],
+) -> Option<(Event<A>, &[u8])>
+    requires { tag ≢ 0x82 }
+    ensures { fields_behind (events_of version) tag first bytes.now
+        ≡ option_map (λ x. (tagged_event x.0, x.1.now)) result }
+{
+    match version {
+        Version::One => plain_event_behind(tag, first, bytes),
+        Version::Two => {
+            if tag >= 0xf0 {
+                return dirty_event_behind(tag, first, bytes);
+            }
+            plain_event_behind(tag, first, bytes)
+        }
+    }
+}
+
+// The event of a tag of the version, other than that with ranges. Each has a file, a user or a device first.
 fn plain_event_of<A: Allocator>(
     version: Version,
     tag: u8,
@@ -77,15 +101,8 @@ fn plain_event_of<A: Allocator>(
     ensures { fields_of_tag (events_of version) tag bytes.now
         ≡ option_map (λ x. (tagged_event x.0, x.1.now)) result }
 {
-    match version {
-        Version::One => plain_event_of_tag(tag, bytes),
-        Version::Two => {
-            if tag >= 0xf0 {
-                return dirty_event_of_tag(tag, bytes);
-            }
-            plain_event_of_tag(tag, bytes)
-        }
-    }
+    let (first, rest) = u16_at(bytes)?;
+    event_behind(version, tag, first, rest)
 }
 
 // The event of a tag of the version. Ranges alone take memory.

@@ -7,7 +7,7 @@ use iofd_words::{Event, FrameList, PassNo};
 use std::alloc::{AllocError, AllocFailed, Allocator, Global};
 
 /// What a record's bytes say was answered. Its numbers may be any of their width, also such as no server answers.
-#[derive(Clone, Copy, PartialEq, Eq, Debug)]
+#[derive(Clone, Copy)]
 pub enum SpelledReply {
     Done,
     /// The id of an object.
@@ -41,7 +41,7 @@ pub struct SpelledRecord<A: Allocator = Global> {
 }
 
 /// Why no record was read.
-#[derive(Clone, Copy, PartialEq, Eq, Debug)]
+#[derive(Clone, Copy)]
 pub enum ReadError {
     /// The bytes begin with no record.
     Torn,

@@ -6,7 +6,7 @@ ghost use Rattle.journal_audit_bytes.specs.Version.{mark, width_of};
 use iofd_words::Width;
 
 /// A version of the format of journals. The mark at the front of a journal's head says which it is.
-#[derive(Clone, Copy, PartialEq, Eq, Debug)]
+#[derive(Clone, Copy)]
 pub enum Version {
     /// The addresses of a device have 39 or 48 bits, and no record is of dirty tracking.
     One,

@@ -42,7 +42,7 @@ use Rattle.iofd_words.specs.declared.rows.ObjectKind.{ObjectKind}
 use Rattle.iofd_words.specs.declared.rows.ObjectKind.TheVariants as kind
 use Rattle.iofd_words.specs.declared.rows.Pin.{Pin}
 use Rattle.journal_audit_events.specs.Asked.{over_space, space_left, space_under}
-use Rattle.journal_audit_index.specs.Keys.{has_number}
+use Rattle.journal_audit_world.specs.Keys.{has_number}
 use Rattle.journal_audit_world.proofs.Asked.{accessed_left, still_pinned, translated_left, translated_still}
 use Rattle.journal_audit_world.proofs.AreasOver.{used_or_asked}
 use Rattle.journal_audit_world.proofs.Settling.{listed_left, pages_fewer, pinned_still, settle_less, used_still, with_kept_pins}

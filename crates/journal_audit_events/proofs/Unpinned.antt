@@ -6,7 +6,7 @@ use Rattle.std.proofs.lemmas.Bool.Decides.{nat_tests}
 use Rattle.std.specs.List.{list_all, list_any}
 use Rattle.iofd_rows.proofs.Bools.{and_true, both_true, clash}
 use Rattle.iofd_rows.proofs.Each.{of_any}
-use Rattle.iofd_rows.proofs.ListTests.{any_weaker, or_left, or_right}
+use Rattle.iofd_rows.proofs.ListTests.{or_left, or_right}
 use Rattle.iofd_rows.proofs.Named.{file_is, id_is}
 use Rattle.iofd_rows.proofs.ObjectPages.{is_listed}
 use Rattle.iofd_runs.proofs.AccessPins.{is_accessed_by}
@@ -31,7 +31,7 @@ use Rattle.iofd_words.specs.declared.rows.Area.{Area}
 use Rattle.iofd_words.specs.declared.rows.Object.{Object}
 use Rattle.iofd_words.specs.declared.rows.ObjectKind.{ObjectKind}
 use Rattle.iofd_words.specs.declared.rows.Pin.{Pin}
-use Rattle.journal_audit_index.specs.Keys.{has_number}
+use Rattle.journal_audit_world.specs.Keys.{has_number}
 use Rattle.journal_audit_world.proofs.Asked.{still_pinned}
 use Rattle.journal_audit_world.specs.Kept.{IsKept}
 use Rattle.journal_audit_world.specs.Over.{is_over}

@@ -10,8 +10,7 @@ ghost use Rattle.journal_audit_world.specs.Kept.{IsKept};
 ghost use Rattle.journal_audit_world.specs.Unwritten.{unwritten};
 
 use iofd_words::{Cause, FileNo, NoMemory, ObjId, PinRequest, Reply};
-use journal_audit_index::Numbers;
-use journal_audit_world::{World, access_pins, keeping, objects, over};
+use journal_audit_world::{Numbers, World, access_pins, keeping, objects, over};
 use std::alloc::Allocator;
 
 /// Why it is refused, if it is.

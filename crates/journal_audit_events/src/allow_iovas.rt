@@ -10,8 +10,9 @@ ghost use Rattle.iofd_words.specs.View.{view};
 ghost use Rattle.iofd_words.specs.declared.event.Event.TheVariants as event;
 ghost use Rattle.journal_audit_world.specs.Unwritten.{unwritten};
 
+use crate::usable;
 use iofd_words::{Cause, FileNo, IovaRange, NoMemory, ObjId, Reply};
-use journal_audit_world::{World, allowed, objects, usable};
+use journal_audit_world::{World, allowed, objects};
 use std::alloc::Allocator;
 
 /// Why it is refused, if it is.

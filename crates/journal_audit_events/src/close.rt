@@ -1,6 +1,6 @@
 //! Close: a file goes with all that it has.
 
-ghost use Rattle.std.specs.Prelude.{◌≡◌, ◌||◌, None, IfOk};
+ghost use Rattle.std.specs.Prelude.{◌≡◌, ◌==◌, ◌&&◌, ◌||◌, None, IfOk};
 ghost use Rattle.std.specs.List.{list_any};
 ghost use Rattle.iofd_steps.specs.After.{changed};
 ghost use Rattle.iofd_refusals.specs.Checks.{close_checks, refusal};
@@ -12,8 +12,9 @@ ghost use Rattle.journal_audit_world.specs.Kept.{IsKept};
 ghost use Rattle.journal_audit_world.specs.Unwritten.{unwritten};
 
 use iofd_words::{Cause, FileNo, NoMemory, Object, Reply};
-use journal_audit_index::Numbers;
-use journal_audit_world::{World, allowed, areas, attachments, keeping, objects, over, tracked};
+use journal_audit_world::{
+    Numbers, World, allowed, areas, attachments, keeping, objects, over, tracked,
+};
 use std::alloc::Allocator;
 
 /// Why it is refused, if it is.
@@ -30,14 +31,25 @@ pub fn refusal<A: Allocator>(world: &World<A>, file: FileNo) -> Option<Cause>
     None
 }
 
+// Whether it is a device or an access object of the file.
+fn is_holder(file: FileNo, object: Object) -> bool
+    ensures { result ≡ (object.file.0 == file.0 && (is_bound_device object.kind || is_access object.kind)) }
+{
+    object.file.0 == file.0
+        && (objects::is_bound_device(object.kind) || objects::is_access(object.kind))
+}
+
 // Whether the file has a device or an access object.
 fn has_holder(objects: &[Object], file: FileNo) -> bool
     ensures { result ≡ list_any (λ object. is_bound_device object.kind || is_access object.kind)
         (objects_of objects.now file) }
 {
-    objects.iter().filter(|object| object.file.0 == file.0).any(|object| objects::is_bound_device(
-        object.kind,
-    ) || objects::is_access(object.kind))
+    for object in objects {
+        if is_holder(file, *object) {
+            return true;
+        }
+    }
+    false
 }
 
 /// What comes of it, where nothing refuses it, at this position. Its only error is want of memory.

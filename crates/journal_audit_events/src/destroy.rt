@@ -9,14 +9,15 @@ ghost use Rattle.iofd_words.specs.Objects.{kind_of};
 ghost use Rattle.iofd_words.specs.View.{view};
 ghost use Rattle.iofd_words.specs.declared.event.Event.TheVariants as event;
 ghost use Rattle.journal_audit_events.specs.Asked.{over_space, space_under};
-ghost use Rattle.journal_audit_index.specs.Keys.{has_number};
+ghost use Rattle.journal_audit_world.specs.Keys.{has_number};
 ghost use Rattle.journal_audit_world.specs.Kept.{IsKept};
 ghost use Rattle.journal_audit_world.specs.Over.{is_over};
 ghost use Rattle.journal_audit_world.specs.Unwritten.{unwritten};
 
 use iofd_words::{Cause, FileNo, NoMemory, ObjId, ObjectKind, Reply};
-use journal_audit_index::Numbers;
-use journal_audit_world::{World, allowed, areas, attachments, keeping, objects, over, tracked};
+use journal_audit_world::{
+    Numbers, World, allowed, areas, attachments, keeping, objects, over, tracked,
+};
 use std::alloc::Allocator;
 
 /// Why it is refused, if it is.

@@ -10,14 +10,13 @@ ghost use Rattle.iofd_words.specs.Objects.{is_automatic, is_object, kind_of};
 ghost use Rattle.iofd_words.specs.View.{view};
 ghost use Rattle.iofd_words.specs.declared.event.Event.TheVariants as event;
 ghost use Rattle.journal_audit_events.specs.Asked.{over_space, space_left};
-ghost use Rattle.journal_audit_index.specs.Keys.{has_number};
+ghost use Rattle.journal_audit_world.specs.Keys.{has_number};
 ghost use Rattle.journal_audit_world.specs.Kept.{IsKept};
 ghost use Rattle.journal_audit_world.specs.Unwritten.{unwritten};
 
 use iofd_words::{Cause, DeviceNo, FileNo, NoMemory, ObjId, Object, ObjectKind, Reply};
-use journal_audit_index::Numbers;
 use journal_audit_world::tracked::TrackedRow;
-use journal_audit_world::{World, areas, attachments, keeping, objects, over, tracked};
+use journal_audit_world::{Numbers, World, areas, attachments, keeping, objects, over, tracked};
 use std::alloc::Allocator;
 
 /// Why it is refused, if it is.
@@ -69,17 +68,24 @@ fn numbers_left<A: Allocator + Copy>(
     Ok(numbers)
 }
 
-// Whether an automatic page table of this name is there that goes with its last device.
+// Whether it is an automatic page table of this name that goes with its last device.
+fn goes_one(file: FileNo, hwpt: ObjId, is_used: bool, object: Object) -> bool
+    ensures { result ≡ (is_object file hwpt object && is_automatic object.kind && not is_used) }
+{
+    objects::is_object(file, hwpt, object) && objects::is_automatic(object.kind) && !is_used
+}
+
+// Whether such a page table is there.
 fn goes(objects: &[Object], file: FileNo, hwpt: ObjId, is_used: bool) -> bool
     ensures { result ≡ list_any (λ object. is_object file hwpt object && is_automatic object.kind && not is_used)
         objects.now }
 {
-    objects.iter().any(|object| {
-        object.file.0 == file.0
-            && object.id.0 == hwpt.0
-            && objects::is_automatic(object.kind)
-            && !is_used
-    })
+    for object in objects {
+        if goes_one(file, hwpt, is_used, *object) {
+            return true;
+        }
+    }
+    false
 }
 
 // It isn't tracked any more then.

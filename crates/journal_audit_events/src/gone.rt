@@ -1,6 +1,6 @@
 //! Which tables go with an event.
 
-ghost use Rattle.std.specs.Prelude.{◌≡◌};
+ghost use Rattle.std.specs.Prelude.{◌≡◌, ◌==◌, ◌&&◌, not};
 ghost use Rattle.iofd_words.specs.Attachments.{attachment_of, has_device_on, without_attachment};
 ghost use Rattle.journal_audit_events.specs.Gone.{gone_with, gone_with_attachment, is_automatic_kind};
 
@@ -54,12 +54,22 @@ fn is_automatic(kind: Option<ObjectKind>) -> bool
     }
 }
 
+// Whether by it another device translates by the page table.
+fn is_other_on(device: DeviceNo, file: FileNo, hwpt: ObjId, attachment: Attachment) -> bool
+    ensures { result ≡ (not (attachment.device.0 == device.0)
+        && (attachment.file.0 == file.0 && attachment.hwpt.0 == hwpt.0)) }
+{
+    attachment.device.0 != device.0 && attachment.file.0 == file.0 && attachment.hwpt.0 == hwpt.0
+}
+
 // Whether another device translates by the page table.
 fn has_other_on(attachments: &[Attachment], device: DeviceNo, file: FileNo, hwpt: ObjId) -> bool
     ensures { result ≡ has_device_on (without_attachment device attachments.now) file hwpt }
 {
-    attachments
-        .iter()
-        .filter(|attachment| attachment.device.0 != device.0)
-        .any(|attachment| attachment.file.0 == file.0 && attachment.hwpt.0 == hwpt.0)
+    for attachment in attachments {
+        if is_other_on(device, file, hwpt, *attachment) {
+            return true;
+        }
+    }
+    false
 }

@@ -19,4 +19,5 @@ pub mod events;
 pub mod gone;
 pub mod ioas_alloc;
 pub mod outcomes;
+pub mod usable;
 pub mod user_memory;

@@ -20,7 +20,7 @@ use Rattle.iofd_words.specs.declared.rows.Area.{Area}
 use Rattle.iofd_words.specs.declared.rows.MemoryObject.{MemoryObject}
 use Rattle.iofd_words.specs.declared.rows.Object.{Object}
 use Rattle.iofd_words.specs.declared.rows.Pin.{Pin}
-use Rattle.journal_audit_index.specs.Keys.{has_number}
+use Rattle.journal_audit_world.specs.Keys.{has_number}
 use Rattle.journal_audit_world.proofs.Asked.{accessed_left, still_pinned, translated_left}
 use Rattle.journal_audit_world.proofs.AreasOver.{used_or_asked}
 use Rattle.journal_audit_world.proofs.Settling.{listed_left, pinned_still, settle_less, used_still, with_kept_pins}

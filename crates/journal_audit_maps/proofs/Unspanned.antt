@@ -20,7 +20,7 @@ use Rattle.iofd_words.specs.declared.rows.Area.{Area}
 use Rattle.iofd_words.specs.declared.rows.MemoryObject.{MemoryObject}
 use Rattle.iofd_words.specs.declared.rows.Pin.{Pin}
 use Rattle.iofd_words.specs.declared.rows.UserPage.{UserPage}
-use Rattle.journal_audit_index.specs.Keys.{has_number}
+use Rattle.journal_audit_world.specs.Keys.{has_number}
 use Rattle.journal_audit_maps.specs.Newly.{Gathers, newly_spanned, pages_at}
 use Rattle.journal_audit_maps.proofs.Gathered.{gathers_none, none_left}
 use Rattle.journal_audit_world.specs.Over.{is_over}

@@ -1,7 +1,7 @@
 //! Addresses as a request names them.
 
-ghost use Rattle.std.specs.Prelude.{◌≡◌};
-ghost use Rattle.iofd_words.specs.Areas.{areas_meet, areas_of, is_cut};
+ghost use Rattle.std.specs.Prelude.{◌≡◌, ◌&&◌, not};
+ghost use Rattle.iofd_words.specs.Areas.{areas_meet, areas_of, is_cut, is_of};
 ghost use Rattle.iofd_words.specs.Span.{lies_in, meets, span_from};
 
 use iofd_words::{Area, FileNo, ObjId, Span};
@@ -52,22 +52,41 @@ impl Asked {
     }
 }
 
+// Whether it is an area of the address space that has an address in common with it.
+fn is_met(area: &Area, file: FileNo, ioas: ObjId, asked: Asked) -> bool
+    ensures { result ≡ (is_of file ioas area.now && meets area.now.span asked) }
+{
+    is_of(file, ioas, area) && asked.meets(area.span)
+}
+
 /// Whether some area of the address space has an address in common with it.
 pub fn areas_meet(areas: &[Area], file: FileNo, ioas: ObjId, asked: Asked) -> bool
     ensures { result ≡ areas_meet asked (areas_of areas.now file ioas) }
 {
-    areas
-        .iter()
-        .filter(|area| is_of(file, ioas, area))
-        .any(|area| asked.meets(area.span))
+    for area in areas {
+        if is_met(area, file, ioas, asked) {
+            return true;
+        }
+    }
+    false
+}
+
+// Whether it is one that isn't wholly in it.
+fn is_parted(area: &Area, file: FileNo, ioas: ObjId, asked: Asked) -> bool
+    ensures { result
+        ≡ (is_of file ioas area.now && (meets area.now.span asked && not (lies_in area.now.span asked))) }
+{
+    is_met(area, file, ioas, asked) && !asked.has_all(area.span)
 }
 
 /// Whether one has, and isn't wholly in it.
 pub fn is_cut(areas: &[Area], file: FileNo, ioas: ObjId, asked: Asked) -> bool
     ensures { result ≡ is_cut asked (areas_of areas.now file ioas) }
 {
-    areas
-        .iter()
-        .filter(|area| is_of(file, ioas, area))
-        .any(|area| asked.meets(area.span) && !asked.has_all(area.span))
+    for area in areas {
+        if is_parted(area, file, ioas, asked) {
+            return true;
+        }
+    }
+    false
 }

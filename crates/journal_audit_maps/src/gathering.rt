@@ -2,14 +2,13 @@
 
 ghost use Rattle.std.specs.Prelude.{◌≡◌, ◌<◌, ℕ, ◌==◌, ◌&&◌, ◌+◌, ◌*◌, ◌∷◌, [], true, false, find, IfOk, MatchOption};
 ghost use Rattle.std.specs.List.{flat_map, list_all};
-ghost use Rattle.std.specs.Option.{option_copied};
 ghost use Rattle.iofd_rows.specs.Pinned.{has_object, have_own_numbers};
 ghost use Rattle.iofd_words.specs.Accesses.{is_spanned};
 ghost use Rattle.iofd_words.specs.Areas.{areas_of, is_of};
 ghost use Rattle.iofd_words.specs.Frames.{frame_at};
 ghost use Rattle.iofd_words.specs.Pins.{frame_now, pages_of, span_of_page};
 ghost use Rattle.iofd_words.specs.Span.{lies_in, meets, span_from};
-ghost use Rattle.journal_audit_index.specs.Keys.{has_number};
+ghost use Rattle.journal_audit_world.specs.Keys.{has_number};
 ghost use Rattle.journal_audit_maps.specs.Newly.{Gathers, IsNext, lesser, newly_spanned, unpinned_of};
 ghost use Rattle.journal_audit_world.specs.Over.{is_over};
 
@@ -17,34 +16,41 @@ use crate::asked::Asked;
 use iofd_words::{
     Area, FileNo, FrameNo, MemoryObject, NoMemory, ObjId, PAGE_SIZE, Pin, UserNo, UserPage,
 };
-use journal_audit_index::Numbers;
 use journal_audit_world::areas::is_of;
-use journal_audit_world::over;
 use journal_audit_world::pages::page_of;
 use journal_audit_world::pins::pinned_frame;
+use journal_audit_world::{Numbers, over};
 use std::alloc::Allocator;
+
+// Whether it is the row of the user's page.
+fn is_page_of(user: UserNo, page: u128, row: UserPage) -> bool
+    ensures { result ≡ (row.user.0 == user.0 && row.page == page) }
+{
+    row.user.0 == user.0 && u128::from(row.page) == page
+}
 
 // The frame of a page in a user's memory; no user has a page from 2^64 on.
 fn frame_at(pages: &[UserPage], user: UserNo, page: u128) -> Option<FrameNo>
     ensures { result ≡ frame_at pages.now user page }
 {
-    let found = pages.iter().find(|other| other.user.0 == user.0
-        && u128::from(other.page) == page)?;
-    Some(found.frame)
+    for other in pages {
+        if is_page_of(user, page, *other) {
+            return Some(other.frame);
+        }
+    }
+    None
 }
 
-// The memory object of this number.
-fn object_of(memory: &[MemoryObject], number: u64) -> Option<MemoryObject>
+/// The memory object of this number.
+pub fn object_of(memory: &[MemoryObject], number: u64) -> Option<MemoryObject>
     ensures { result ≡ find (λ m. m.number == number) memory.now }
 {
-    found_object(memory, number).copied()
-}
-
-// The memory object of this number, in its place.
-fn found_object(memory: &[MemoryObject], number: u64) -> Option<&MemoryObject>
-    ensures { option_copied result ≡ find (λ m. m.number == number) memory.now }
-{
-    memory.iter().find(|object| object.number == number)
+    for object in memory {
+        if object.number == number {
+            return Some(*object);
+        }
+    }
+    None
 }
 
 // The frame that a page of a memory object has in its user's memory now.

@@ -19,8 +19,7 @@ use crate::leaving::{
 };
 use crate::waiting::waits;
 use iofd_words::{Cause, Errno, FileNo, NoMemory, Reply, UnmapRequest};
-use journal_audit_index::Numbers;
-use journal_audit_world::{World, keeping, objects, over, pages};
+use journal_audit_world::{Numbers, World, keeping, objects, over, pages};
 use std::alloc::Allocator;
 
 /// Why it is refused, if it is.

@@ -22,7 +22,12 @@ use std::alloc::Allocator;
 fn has_attached(objects: &[Object], attachments: &[Attachment], file: FileNo, ioas: ObjId) -> bool
     ensures { result ≡ list_any (is_attached_to objects.now file ioas) attachments.now }
 {
-    attachments.iter().any(|attachment| is_attached_to(objects, file, ioas, *attachment))
+    for attachment in attachments {
+        if is_attached_to(objects, file, ioas, *attachment) {
+            return true;
+        }
+    }
+    false
 }
 
 // Whether some device still has to flush, where it is told whether one is attached.
@@ -35,12 +40,24 @@ fn is_owed(attached: bool, phase: &Phase) -> bool
     }
 }
 
+// Whether some device still has to flush the area, and it is touched.
+fn is_owed_by(attached: bool, file: FileNo, request: UnmapRequest, area: &Area) -> bool
+    ensures { result ≡ (is_touched file request area.now && are_owed attached area.now.phase) }
+{
+    is_touched(file, request, area) && is_owed(attached, &area.phase)
+}
+
 // Whether some device still has to flush an area that is touched.
 fn is_some_owed(areas: &[Area], attached: bool, file: FileNo, request: UnmapRequest) -> bool
     ensures { result
         ≡ list_any (λ area. is_touched file request area && are_owed attached area.phase) areas.now }
 {
-    areas.iter().any(|area| is_touched(file, request, area) && is_owed(attached, &area.phase))
+    for area in areas {
+        if is_owed_by(attached, file, request, area) {
+            return true;
+        }
+    }
+    false
 }
 
 // Whether it is a pin of an access object that is attached to the address space, and meets these addresses.
@@ -66,8 +83,12 @@ fn has_pin_at(
 ) -> bool
     ensures { result ≡ list_any (is_pin_at objects.now file ioas asked) pins.now }
 {
-    pins.iter()
-        .any(|pin| is_pin_at(objects, file, ioas, asked, pin))
+    for pin in pins {
+        if is_pin_at(objects, file, ioas, asked, pin) {
+            return true;
+        }
+    }
+    false
 }
 
 // Whether one of the touched areas is owed a flush, or such a pin is in the way.

@@ -1,4 +1,5 @@
 pub mod Attached
+pub mod Indexed
 pub mod Joined
 pub mod ListedObjects
 pub mod ListedPages

@@ -30,7 +30,7 @@ use Rattle.iofd_words.specs.declared.rows.MemoryObject.{MemoryObject}
 use Rattle.iofd_words.specs.declared.rows.Pin.{Pin}
 use Rattle.iofd_words.specs.declared.rows.UserPage.{UserPage}
 use Rattle.journal_audit_maps.specs.Newly.{Gathers}
-use Rattle.journal_audit_index.specs.Keys.{has_number, has_pair}
+use Rattle.journal_audit_world.specs.Keys.{has_number, has_pair}
 use Rattle.journal_audit_page_tables.specs.Listed.{Listed, has_few_pages, now_in, own_frame, pin_at, unpinned}
 use Rattle.journal_audit_page_tables.specs.Listed.{unpinned_over}
 use Rattle.journal_audit_page_tables.proofs.ListedPages.{listed_more, listed_none, listed_stop}

@@ -8,7 +8,7 @@ use Rattle.iofd_words.specs.Pins.{ObjectPage, are_present, pages_of}
 use Rattle.iofd_words.specs.declared.numbers.FrameNo.{FrameNo}
 use Rattle.iofd_words.specs.declared.rows.MemoryObject.{MemoryObject}
 use Rattle.iofd_words.specs.declared.rows.Pin.{Pin}
-use Rattle.journal_audit_index.specs.Keys.{has_pair}
+use Rattle.journal_audit_world.specs.Keys.{has_pair}
 use Rattle.journal_audit_page_tables.specs.Listed.{Listed, pin_at, unpinned}
 
 pins-append : (f : ObjectPage → Option Pin) (xs ys : List ObjectPage)

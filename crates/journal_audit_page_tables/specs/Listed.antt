@@ -8,7 +8,7 @@ use Rattle.iofd_words.specs.declared.numbers.FrameNo.{FrameNo}
 use Rattle.iofd_words.specs.declared.numbers.UserNo.{UserNo}
 use Rattle.iofd_words.specs.declared.rows.MemoryObject.{MemoryObject}
 use Rattle.iofd_words.specs.declared.rows.Pin.{Pin}
-use Rattle.journal_audit_index.specs.Keys.{has_number, has_pair}
+use Rattle.journal_audit_world.specs.Keys.{has_number, has_pair}
 
 -- the pin of a page at the frame that it has now
 abbrev pub pin_at : (ObjectPage → Option FrameNo) → ObjectPage → Option Pin

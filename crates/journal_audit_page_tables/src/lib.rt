@@ -7,6 +7,7 @@ pub mod attach;
 pub mod hwpt_alloc;
 pub mod listing;
 pub mod narrowing;
+pub mod page_sets;
 pub mod pinning;
 pub mod rows;
 pub mod unusable;

@@ -3,8 +3,8 @@
 ghost use Rattle.std.specs.Prelude.{◌≡◌, ◌≤◌, ◌+◌, ◌^◌, ◌∷◌, [], IfOk, if◌then◌else◌};
 ghost use Rattle.iofd_words.specs.Pages.{page_of};
 ghost use Rattle.iofd_words.specs.Pins.{pages_of};
-ghost use Rattle.journal_audit_index.specs.Keys.{has_pair};
-ghost use Rattle.journal_audit_index.specs.Pages.{frame_in};
+ghost use Rattle.journal_audit_world.specs.Keys.{has_pair};
+ghost use Rattle.journal_audit_page_tables.specs.PageSets.{frame_in};
 ghost use Rattle.journal_audit_page_tables.specs.Listed.{Listed, own_frame, unpinned};
 
 use iofd_words::{FrameNo, MemoryObject, NoMemory, PAGE_SIZE, Pin, UserNo};

@@ -1,10 +1,9 @@
 //! Areas and allowed ranges that would lie outside what an address space can use, with a page table or a device more.
 
-ghost use Rattle.std.specs.Prelude.{◌≡◌, ◌++◌, IfOk, find, map};
+ghost use Rattle.std.specs.Prelude.{◌≡◌, ◌&&◌, ◌++◌, IfOk, map};
 ghost use Rattle.std.specs.List.{list_any};
-ghost use Rattle.std.specs.Option.{option_copied};
-ghost use Rattle.iofd_words.specs.Allowed.{allowed_of, is_allowed_in};
-ghost use Rattle.iofd_words.specs.Areas.{areas_of};
+ghost use Rattle.iofd_words.specs.Allowed.{allowed_of};
+ghost use Rattle.iofd_words.specs.Areas.{areas_of, is_of};
 ghost use Rattle.iofd_refusals.specs.Checks as words;
 ghost use Rattle.iofd_words.specs.Files.{device_of};
 ghost use Rattle.iofd_words.specs.Objects.{settings_under};
@@ -14,6 +13,7 @@ ghost use Rattle.journal_audit_page_tables.specs.Unusable.{meets_unusable};
 use crate::unusable::Unusable;
 use crate::widths::{width_of, width_under};
 use iofd_words::{Area, Config, DeviceNo, FileNo, IovaRange, NoMemory, ObjId, Span};
+use journal_audit_world::allowed::row_of;
 use journal_audit_world::areas::is_of;
 use journal_audit_world::{AllowedRow, World};
 use std::alloc::Allocator;
@@ -28,6 +28,19 @@ fn range_of(span: Span) -> IovaRange
     }
 }
 
+// Whether it is an area of the address space, and has an address that can't be used.
+fn is_outside<A: Allocator>(
+    config: &Config<A>,
+    unusable: &Unusable<A>,
+    area: &Area,
+    file: FileNo,
+    ioas: ObjId,
+) -> bool
+    ensures { result ≡ (is_of file ioas area.now && meets_unusable config.now unusable.now area.now.span) }
+{
+    is_of(file, ioas, area) && unusable.meets(config, range_of(area.span))
+}
+
 // Whether an area of the address space has an address that can't be used.
 fn area_outside<A: Allocator>(
     config: &Config<A>,
@@ -39,22 +52,12 @@ fn area_outside<A: Allocator>(
     ensures { result ≡ list_any (λ area. meets_unusable config.now unusable.now area.span)
         (areas_of areas.now file ioas) }
 {
-    areas
-        .iter()
-        .filter(|area| is_of(file, ioas, area))
-        .any(|area| unusable.meets(config, range_of(area.span)))
-}
-
-// The row of the ranges that it allows, if it has one.
-fn allowed_row<A: Allocator>(
-    rows: &[AllowedRow<A>],
-    file: FileNo,
-    ioas: ObjId,
-) -> Option<&AllowedRow<A>>
-    ensures { option_copied result ≡ find (is_allowed_in file ioas) rows.now }
-{
-    rows.iter()
-        .find(|row| row.file.0 == file.0 && row.ioas.0 == ioas.0)
+    for area in areas {
+        if is_outside(config, unusable, area, file, ioas) {
+            return true;
+        }
+    }
+    false
 }
 
 // Whether some range has such an address.
@@ -65,7 +68,12 @@ fn some_outside<A: Allocator>(
 ) -> bool
     ensures { result ≡ list_any (meets_unusable config.now unusable.now) ranges.now }
 {
-    ranges.iter().any(|range| unusable.meets(config, *range))
+    for range in ranges {
+        if unusable.meets(config, *range) {
+            return true;
+        }
+    }
+    false
 }
 
 // Whether one of those ranges has such an address.
@@ -78,7 +86,7 @@ fn allowed_outside<A: Allocator>(
 ) -> bool
     ensures { result ≡ list_any (meets_unusable config.now unusable.now) (allowed_of rows.now file ioas) }
 {
-    match allowed_row(rows, file, ioas) {
+    match row_of(rows, file, ioas) {
         Some(row) => some_outside(config, unusable, &row.ranges),
         None => false,
     }

@@ -11,7 +11,7 @@ ghost use Rattle.iofd_words.specs.Objects.{is_fresh};
 ghost use Rattle.iofd_words.specs.Pins.{are_present, pages_of};
 ghost use Rattle.iofd_words.specs.View.{view};
 ghost use Rattle.journal_audit_maps.specs.Newly.{Gathers};
-ghost use Rattle.journal_audit_index.specs.Pages.{frame_in};
+ghost use Rattle.journal_audit_page_tables.specs.PageSets.{frame_in};
 ghost use Rattle.journal_audit_page_tables.specs.Listed.{Listed, has_few_pages, now_in, own_frame, unpinned};
 ghost use Rattle.journal_audit_page_tables.specs.Listed.{unpinned_over};
 ghost use Rattle.journal_audit_page_tables.specs.Pinning.{first_pins, with_table};
@@ -19,13 +19,12 @@ ghost use Rattle.journal_audit_world.specs.Kept.{IsKept};
 ghost use Rattle.journal_audit_world.specs.Unwritten.{unwritten};
 
 use crate::listing::list_pages;
+use crate::page_sets::{frames_by_page, pinned_pages};
 use iofd_words::{
     Cause, FileNo, FrameNo, MemoryObject, NoMemory, ObjId, Object, ObjectKind, Pin, Width,
 };
-use journal_audit_index::Numbers;
-use journal_audit_index::pages::{frames_by_page, pinned_pages};
 use journal_audit_maps::accounts::passes_limit;
-use journal_audit_world::{World, objects, over};
+use journal_audit_world::{Numbers, World, objects, over};
 use std::alloc::Allocator;
 use std::collections::{BTreeMap, BTreeSet};
 

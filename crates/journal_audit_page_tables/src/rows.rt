@@ -1,8 +1,8 @@
 //! Refusals that HWPT_ALLOC and an attachment to an address space have in common.
 
-ghost use Rattle.std.specs.Prelude.{◌≡◌, IfOk, false, length, nat_lt, not};
+ghost use Rattle.std.specs.Prelude.{◌≡◌, ◌&&◌, IfOk, false, length, nat_lt, not};
 ghost use Rattle.std.specs.List.{list_any};
-ghost use Rattle.iofd_words.specs.Areas.{areas_of};
+ghost use Rattle.iofd_words.specs.Areas.{areas_of, is_of};
 ghost use Rattle.iofd_refusals.specs.Checks.{lacks_attached_frames, lacks_new_tables, lacks_room_for_hwpt};
 ghost use Rattle.iofd_refusals.specs.Checks.{waits_for_leaving};
 ghost use Rattle.iofd_words.specs.Files.{device_of};
@@ -24,13 +24,22 @@ pub fn waits_for_leaving<A: Allocator>(world: &World<A>, file: FileNo, ioas: Obj
     !objects::has_hwpt(&world.objects, file, ioas) && is_some_leaving(&world.areas, file, ioas)
 }
 
+// Whether it is an area of the address space that is leaving.
+fn is_leaving(area: &Area, file: FileNo, ioas: ObjId) -> bool
+    ensures { result ≡ (is_of file ioas area.now && not (is_live area.now.phase)) }
+{
+    areas::is_of(file, ioas, area) && !is_live(&area.phase)
+}
+
 fn is_some_leaving(areas: &[Area], file: FileNo, ioas: ObjId) -> bool
     ensures { result ≡ list_any (λ area. not (is_live area.phase)) (areas_of areas.now file ioas) }
 {
-    areas
-        .iter()
-        .filter(|area| areas::is_of(file, ioas, area))
-        .any(|area| !is_live(&area.phase))
+    for area in areas {
+        if is_leaving(area, file, ioas) {
+            return true;
+        }
+    }
+    false
 }
 
 fn is_live(phase: &Phase) -> bool

@@ -8,27 +8,21 @@ ghost use Rattle.iofd_words.specs.Bounds.{Bounds};
 ghost use Rattle.iofd_words.specs.Files.{device_of};
 ghost use Rattle.iofd_words.specs.Ranges.{meets_some};
 ghost use Rattle.iofd_words.specs.Span.{meets};
-ghost use Rattle.iofd_words.specs.Usable.{beyond, reserved_by, reserved_of, unusable};
+ghost use Rattle.iofd_words.specs.Usable.{beyond, reserved_of, unusable};
 ghost use Rattle.journal_audit_page_tables.specs.Unusable.{is_of_width, is_table, meets_unusable, with_attached};
 ghost use Rattle.journal_audit_page_tables.specs.Unusable.{with_width};
 
 use iofd_words::{
-    Attachment, Config, DeviceConfig, DeviceNo, FileNo, INTERRUPT_RANGE, IovaRange, NoMemory,
-    ObjId, Object, ObjectKind, Span, Width,
+    Attachment, Config, DeviceNo, FileNo, IovaRange, NoMemory, ObjId, Object, ObjectKind, Width,
 };
+use journal_audit_events::usable::is_kept;
+use journal_audit_world::World;
 use journal_audit_world::attachments::is_attached_to;
-use journal_audit_world::{World, objects};
+use journal_audit_world::objects::is_hwpt_of;
 use std::alloc::{Allocator, Global};
 use std::marker::Model;
 
 // ---- one range
-
-// Whether the two have an address in common.
-fn meets(span: Span, range: IovaRange) -> bool
-    ensures { result ≡ meets span range }
-{
-    span.first() <= range.last && range.start <= span.last()
-}
 
 // Whether the range has an address that tables of this width don't translate.
 fn is_beyond(width: Width, range: IovaRange) -> bool
@@ -37,35 +31,15 @@ fn is_beyond(width: Width, range: IovaRange) -> bool
     width.end() <= range.last
 }
 
-// Whether the device keeps an address of it for itself.
-fn is_kept_by<A: Allocator>(device: &DeviceConfig<A>, range: IovaRange) -> bool
-    ensures { result ≡ meets_some (reserved_by device.now) range }
-{
-    if device.is_x86() {
-        return meets(INTERRUPT_RANGE, range) || is_reserved(device.reserved(), range);
-    }
-    is_reserved(device.reserved(), range)
-}
-
-fn is_reserved(spans: &[Span], range: IovaRange) -> bool
-    ensures { result ≡ meets_some spans.now range }
-{
-    spans.iter().any(|span| meets(*span, range))
-}
-
-fn is_kept<A: Allocator>(config: &Config<A>, device: DeviceNo, range: IovaRange) -> bool
-    ensures { result ≡ meets_some (reserved_of (device_of config.now device)) range }
-{
-    match config.device(device) {
-        Some(device) => is_kept_by(device, range),
-        None => false,
-    }
-}
-
 fn is_kept_by_some<A: Allocator>(config: &Config<A>, devices: &[DeviceNo], range: IovaRange) -> bool
     ensures { result ≡ list_any (λ device. meets_some (reserved_of (device_of config.now device)) range) devices.now }
 {
-    devices.iter().any(|device| is_kept(config, *device, range))
+    for device in devices {
+        if is_kept(config, *device, range) {
+            return true;
+        }
+    }
+    false
 }
 
 // ---- one address space
@@ -79,15 +53,23 @@ fn is_of_width(width: Width, kind: ObjectKind) -> bool
     }
 }
 
+// Whether it is a page table of this width over the address space.
+fn is_table(file: FileNo, ioas: ObjId, width: Width, object: Object) -> bool
+    ensures { result ≡ is_table file ioas width object }
+{
+    is_hwpt_of(file, ioas, object) && is_of_width(width, object.kind)
+}
+
 // Whether a page table of this width over the address space is there.
 fn has_table(objects: &[Object], file: FileNo, ioas: ObjId, width: Width) -> bool
     ensures { result ≡ list_any (is_table file ioas width) objects.now }
 {
-    objects.iter().any(|object| {
-        object.file.0 == file.0
-            && objects::is_hwpt_over(ioas, object.kind)
-            && is_of_width(width, object.kind)
-    })
+    for object in objects {
+        if is_table(file, ioas, width, *object) {
+            return true;
+        }
+    }
+    false
 }
 
 // The devices that are attached to it.
@@ -101,11 +83,12 @@ fn devices_of<A: Allocator>(
     ensures { IfOk result (λ devices. devices.items
         ≡ map (λ a. a.device) (filter (is_attached_to objects.now file ioas) attachments.now)) }
 {
-    let devices = attachments
-        .iter()
-        .filter(|attachment| is_attached_to(objects, file, ioas, **attachment))
-        .map(|attachment| attachment.device)
-        .collect(alloc)?;
+    let mut devices = Vec::new(alloc);
+    for attachment in attachments {
+        if is_attached_to(objects, file, ioas, *attachment) {
+            devices.push(attachment.device)?;
+        }
+    }
     Ok(devices)
 }
 

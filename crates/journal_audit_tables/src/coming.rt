@@ -1,7 +1,6 @@
 //! What comes with an event for which page tables need tables.
 
-ghost use Rattle.std.specs.Prelude.{◌≡◌, IfOk};
-ghost use Rattle.std.specs.Option.{option_copied};
+ghost use Rattle.std.specs.Prelude.{◌≡◌, ◌==◌, ◌&&◌, IfOk};
 ghost use Rattle.iofd_words.specs.Objects.{automatic_hwpt, device_under, is_automatic_over};
 ghost use Rattle.journal_audit_tables.specs.Coming.{ComingFits, allocated, attached, attached_to, coming_with, mapped};
 ghost use Rattle.journal_audit_tables.specs.Coming.{missing_with};
@@ -130,16 +129,19 @@ fn attached_to(objects: &[Object], file: FileNo, pt_id: ObjId, id: ObjId, width:
 pub fn automatic_hwpt(objects: &[Object], file: FileNo, ioas: ObjId, width: Width) -> Option<Object>
     ensures { result ≡ automatic_hwpt objects.now file ioas width }
 {
-    found(objects, file, ioas, width).copied()
+    for object in objects {
+        if is_automatic_of(file, ioas, width, *object) {
+            return Some(*object);
+        }
+    }
+    None
 }
 
-// The automatic page table of this width over the address space, in its place.
-fn found(objects: &[Object], file: FileNo, ioas: ObjId, width: Width) -> Option<&Object>
-    ensures { option_copied result ≡ automatic_hwpt objects.now file ioas width }
+// Whether it is one of the file.
+fn is_automatic_of(file: FileNo, ioas: ObjId, width: Width, object: Object) -> bool
+    ensures { result ≡ (object.file.0 == file.0 && is_automatic_over ioas width object.kind) }
 {
-    objects.iter().find(|object| {
-        object.file.0 == file.0 && is_automatic_over(ioas, width, object.kind)
-    })
+    object.file.0 == file.0 && is_automatic_over(ioas, width, object.kind)
 }
 
 fn is_automatic_over(ioas: ObjId, width: Width, kind: ObjectKind) -> bool

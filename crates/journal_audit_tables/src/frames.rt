@@ -49,26 +49,46 @@ fn are_different<A: Allocator + Copy>(alloc: A, frames: &[FrameNo]) -> Result<bo
 fn have_page<A: Allocator>(set: &BTreeSet<u32, A>, pages: &[UserPage]) -> bool
     ensures { result ≡ list_any (λ page. has_number set.now.keys page.frame.0) pages.now }
 {
-    pages.iter().any(|page| has(set, page.frame))
+    for page in pages {
+        if has(set, page.frame) {
+            return true;
+        }
+    }
+    false
 }
 
 fn have_pin<A: Allocator>(set: &BTreeSet<u32, A>, pins: &[Pin]) -> bool
     ensures { result ≡ list_any (λ pin. has_number set.now.keys pin.frame.0) pins.now }
 {
-    pins.iter().any(|pin| has(set, pin.frame))
+    for pin in pins {
+        if has(set, pin.frame) {
+            return true;
+        }
+    }
+    false
 }
 
 fn have_table<A: Allocator>(set: &BTreeSet<u32, A>, tables: &[TableFrame]) -> bool
     ensures { result ≡ list_any (λ table. has_number set.now.keys table.frame.0) tables.now }
 {
-    tables.iter().any(|table| has(set, table.frame))
+    for table in tables {
+        if has(set, table.frame) {
+            return true;
+        }
+    }
+    false
 }
 
 // Whether each is a frame of the pool.
 fn are_within(pool: u32, frames: &[FrameNo]) -> bool
     ensures { result ≡ list_all (λ frame. nat_lt frame.0 pool) frames.now }
 {
-    frames.iter().all(|frame| frame.0 < pool)
+    for frame in frames {
+        if frame.0 >= pool {
+            return false;
+        }
+    }
+    true
 }
 
 /// Whether each of the frames is one that nobody reaches, and no two are one. Each list of rows is gone through once.

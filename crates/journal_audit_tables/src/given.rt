@@ -66,14 +66,24 @@ fn may_give(
     is_gone(gone, table) || is_idle_in(objects, areas, space, table)
 }
 
+// Whether the row stays, or its frame is in the set.
+fn is_in<A: Allocator>(set: &BTreeSet<u32, A>, gone: Gone, table: &TableFrame) -> bool
+    ensures { result ≡ (not (is_gone gone table.now) || has_number set.now.keys table.now.frame.0) }
+{
+    !is_gone(gone, table) || has(set, table.frame)
+}
+
 // Whether each row that goes has its frame in the set.
 fn are_in<A: Allocator>(set: &BTreeSet<u32, A>, gone: Gone, tables: &[TableFrame]) -> bool
     ensures { result ≡ list_all (λ table. not
         (is_gone gone table) || has_number set.now.keys table.frame.0) tables.now }
 {
-    tables
-        .iter()
-        .all(|table| !is_gone(gone, table) || has(set, table.frame))
+    for table in tables {
+        if !is_in(set, gone, table) {
+            return false;
+        }
+    }
+    true
 }
 
 // Whether the row's frame is in the set, and it may go.
@@ -131,7 +141,12 @@ fn leaving<A: Allocator + Copy>(
 fn have_all<A: Allocator>(set: &BTreeSet<u32, A>, frames: &[FrameNo]) -> bool
     ensures { result ≡ list_all (λ frame. has_number set.now.keys frame.0) frames.now }
 {
-    frames.iter().all(|frame| has(set, *frame))
+    for frame in frames {
+        if !has(set, *frame) {
+            return false;
+        }
+    }
+    true
 }
 
 /// Whether the frames rise, have those of all rows that go among them, and are each that of a row that goes or may. The

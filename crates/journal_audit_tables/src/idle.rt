@@ -1,8 +1,8 @@
 //! Tables through which no page of an area goes.
 
-ghost use Rattle.std.specs.Prelude.{◌≡◌, ◌≤◌, ◌+◌, ◌*◌, ◌^◌, nat_le};
+ghost use Rattle.std.specs.Prelude.{◌≡◌, ◌≤◌, ◌+◌, ◌*◌, ◌^◌, ◌&&◌, nat_le};
 ghost use Rattle.iofd_words.specs.Span.{meets};
-ghost use Rattle.iofd_words.specs.Areas.{areas_meet, areas_of};
+ghost use Rattle.iofd_words.specs.Areas.{areas_meet, areas_of, is_of};
 ghost use Rattle.iofd_words.specs.Tables.{is_below_root, is_idle, span_of_table};
 ghost use Rattle.journal_audit_tables.specs.Moved.{is_below};
 
@@ -72,14 +72,23 @@ fn is_within(address: u64, table: &TableFrame) -> bool
     u128::from(address) <= last
 }
 
+// Whether it is an area of the address space of which a page goes through it.
+fn is_through(area: &Area, file: FileNo, ioas: ObjId, table: &TableFrame) -> bool
+    ensures { result ≡ (is_of file ioas area.now && meets area.now.span (span_of_table table.now)) }
+{
+    areas::is_of(file, ioas, area) && meets(area, table)
+}
+
 // Whether a page of some area of the address space goes through it.
 fn is_used(areas: &[Area], file: FileNo, ioas: ObjId, table: &TableFrame) -> bool
     ensures { result ≡ areas_meet (span_of_table table.now) (areas_of areas.now file ioas) }
 {
-    areas
-        .iter()
-        .filter(|area| areas::is_of(file, ioas, area))
-        .any(|area| meets(area, table))
+    for area in areas {
+        if is_through(area, file, ioas, table) {
+            return true;
+        }
+    }
+    false
 }
 
 // Whether a page of the area does.

@@ -11,7 +11,7 @@ use Rattle.iofd_rows.proofs.ObjectPages.{has_page, is_listed, listed_is}
 use Rattle.iofd_words.specs.Pins.{ObjectPage}
 use Rattle.iofd_words.specs.declared.rows.Area.{Area}
 use Rattle.iofd_words.specs.declared.rows.MemoryObject.{MemoryObject}
-use Rattle.journal_audit_index.specs.Keys.{has_number}
+use Rattle.journal_audit_world.specs.Keys.{has_number}
 use Rattle.journal_audit_world.specs.Over.{is_over}
 
 -- ---- one area after the other

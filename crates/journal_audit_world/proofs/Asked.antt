@@ -14,7 +14,7 @@ use Rattle.iofd_words.specs.declared.rows.AccessPin.{AccessPin}
 use Rattle.iofd_words.specs.declared.rows.Area.{Area}
 use Rattle.iofd_words.specs.declared.rows.Object.{Object}
 use Rattle.iofd_words.specs.declared.rows.Pin.{Pin}
-use Rattle.journal_audit_index.specs.Keys.{has_number}
+use Rattle.journal_audit_world.specs.Keys.{has_number}
 use Rattle.journal_audit_world.proofs.AreasOver.{listed_still}
 use Rattle.journal_audit_world.specs.Over.{is_over}
 

@@ -17,7 +17,7 @@ use Rattle.iofd_words.specs.declared.rows.MemoryObject.{MemoryObject}
 use Rattle.iofd_words.specs.declared.rows.Object.{Object}
 use Rattle.iofd_words.specs.declared.rows.Phase.TheVariants as phase
 use Rattle.iofd_words.specs.declared.rows.Pin.{Pin}
-use Rattle.journal_audit_index.specs.Keys.{has_number, has_pair}
+use Rattle.journal_audit_world.specs.Keys.{has_number, has_pair}
 use Rattle.journal_audit_world.proofs.Swapped.{any_alike}
 use Rattle.journal_audit_world.specs.Over.{is_over}
 

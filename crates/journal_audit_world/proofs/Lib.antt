@@ -5,12 +5,15 @@ pub mod Differ
 pub mod InPlace
 pub mod Kept
 pub mod KeptRun
+pub mod Keyed
 pub mod Marks
 pub mod Numbered
 pub mod PinTaken
 pub mod Places
 pub mod PoolFew
+pub mod Pushed
 pub mod Rising
+pub mod RowByRow
 pub mod Settling
 pub mod Swapped
 pub mod TrackedPages

@@ -11,7 +11,7 @@ use Rattle.iofd_words.specs.Dirty.{TrackedTable, has_mark, is_marked}
 use Rattle.iofd_words.specs.DirtyWords.{dirty_word, dirty_words, is_page_of, is_reported, word_pages}
 use Rattle.iofd_words.specs.declared.numbers.FileNo.{FileNo}
 use Rattle.iofd_words.specs.declared.numbers.ObjId.{ObjId}
-use Rattle.journal_audit_index.specs.Keys.{has_number}
+use Rattle.journal_audit_world.specs.Keys.{has_number}
 use Rattle.journal_audit_world.specs.Tracked.{bits}
 
 -- ---- pages that are asked for, one after the other

@@ -1,9 +1,10 @@
 //! The pins that access objects hold.
 
-ghost use Rattle.std.specs.Prelude.{◌≡◌, ◌==◌, ◌<◌, length, remove, MatchOption};
+ghost use Rattle.std.specs.Prelude.{◌≡◌, ◌==◌, ◌&&◌, ◌<◌, length, remove, MatchOption};
 ghost use Rattle.iofd_words.specs.Pins.{allows, has_most_pins, holds_pin, is_covered, is_equal, is_held, is_of_access};
 ghost use Rattle.iofd_words.specs.Accesses.{pin_of, pinned_span};
 ghost use Rattle.iofd_words.specs.Pins.{without_pin};
+ghost use Rattle.iofd_words.specs.Span.{holds};
 
 use iofd_words::{AccessKind, AccessPin, FileNo, ObjId, PinRequest};
 use std::alloc::Allocator;
@@ -19,17 +20,25 @@ pub fn is_of_access(file: FileNo, access: ObjId, pin: &AccessPin) -> bool
 pub fn holds_pin(pins: &[AccessPin], file: FileNo, access: ObjId) -> bool
     ensures { result ≡ holds_pin pins.now file access }
 {
-    pins.iter().any(move |pin| pin.file.0 == file.0 && pin.access.0 == access.0)
+    for pin in pins {
+        if is_of_access(file, access, pin) {
+            return true;
+        }
+    }
+    false
 }
 
 /// Whether it holds as many as it may.
 pub fn has_most_pins(pins: &[AccessPin], file: FileNo, access: ObjId) -> bool
     ensures { result ≡ has_most_pins pins.now file access }
 {
-    pins.iter()
-        .filter(move |pin| is_of_access(file, access, pin))
-        .count()
-        >= 65535
+    let mut count: usize = 0;
+    for pin in pins {
+        if is_of_access(file, access, pin) {
+            count += 1;
+        }
+    }
+    count >= 65535
 }
 
 // Whether the pin is the one that is asked for.
@@ -53,8 +62,12 @@ pub fn last_of(request: PinRequest) -> u128
 pub fn is_held(pins: &[AccessPin], file: FileNo, access: ObjId, request: PinRequest) -> bool
     ensures { result ≡ is_held pins.now (pin_of file access request) }
 {
-    pins.iter()
-        .any(move |pin| is_asked(file, access, request, pin))
+    for pin in pins {
+        if is_asked(file, access, request, pin) {
+            return true;
+        }
+    }
+    false
 }
 
 // What a pin is for: each for reads, and some for writes too.
@@ -67,6 +80,14 @@ fn allows(write: bool, kind: AccessKind) -> bool
     }
 }
 
+// Whether the pin is of the access object, covers the page at the address, and is for such an access.
+fn covers(pin: &AccessPin, file: FileNo, access: ObjId, address: u64, kind: AccessKind) -> bool
+    ensures { result
+        ≡ (is_of_access file access pin.now && (holds pin.now.span address && allows pin.now.write kind)) }
+{
+    is_of_access(file, access, pin) && (pin.span.holds(address) && allows(pin.write, kind))
+}
+
 /// Whether a pin of the access object covers the page at the address, and is for such an access.
 pub fn is_covered(
     pins: &[AccessPin],
@@ -77,9 +98,12 @@ pub fn is_covered(
 ) -> bool
     ensures { result ≡ is_covered pins.now file access address kind }
 {
-    pins.iter().any(move |pin| {
-        is_of_access(file, access, pin) && (pin.span.holds(address) && allows(pin.write, kind))
-    })
+    for pin in pins {
+        if covers(pin, file, access, address, kind) {
+            return true;
+        }
+    }
+    false
 }
 
 /// One pin that equals the one that is asked for goes, if one is held.

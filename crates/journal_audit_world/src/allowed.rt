@@ -1,14 +1,38 @@
 //! The ranges to which the addresses that the server chooses are bounded.
 
-ghost use Rattle.std.specs.Prelude.{◌≡◌, ◌==◌, IfOk, not, filter};
+ghost use Rattle.std.specs.Prelude.{◌≡◌, ◌==◌, IfOk, find, not, filter};
 ghost use Rattle.std.specs.List.{list_any};
-ghost use Rattle.iofd_words.specs.Allowed.{are_ranges, with_allowed, without_allowed};
+ghost use Rattle.std.specs.Option.{option_copied};
+ghost use Rattle.iofd_words.specs.Allowed.{are_ranges, is_allowed_in, with_allowed, without_allowed};
 ghost use Rattle.iofd_words.specs.Ranges.{meets_some};
 ghost use Rattle.iofd_words.specs.Span.{meets};
 
 use crate::world::AllowedRow;
 use iofd_words::{FileNo, IovaRange, NoMemory, ObjId};
 use std::alloc::Allocator;
+
+// Whether it is the row of the address space.
+fn is_of<A: Allocator>(file: FileNo, ioas: ObjId, row: &AllowedRow<A>) -> bool
+    ensures { result ≡ is_allowed_in file ioas row.now }
+{
+    row.file.0 == file.0 && row.ioas.0 == ioas.0
+}
+
+/// The row of the ranges that the address space allows, if it has one.
+pub fn row_of<A: Allocator>(
+    rows: &[AllowedRow<A>],
+    file: FileNo,
+    ioas: ObjId,
+) -> Option<&AllowedRow<A>>
+    ensures { option_copied result ≡ find (is_allowed_in file ioas) rows.now }
+{
+    for row in rows {
+        if is_of(file, ioas, row) {
+            return Some(row);
+        }
+    }
+    None
+}
 
 /// Whether the two have an address in common.
 pub fn meets(a: IovaRange, b: IovaRange) -> bool
@@ -21,7 +45,12 @@ pub fn meets(a: IovaRange, b: IovaRange) -> bool
 pub fn meets_some(ranges: &[IovaRange], range: IovaRange) -> bool
     ensures { result ≡ meets_some ranges.now range }
 {
-    ranges.iter().any(move |one| meets(*one, range))
+    for one in ranges {
+        if meets(*one, range) {
+            return true;
+        }
+    }
+    false
 }
 
 /// Whether each range begins below its last address, and no two have an address in common.

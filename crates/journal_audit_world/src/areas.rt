@@ -1,8 +1,9 @@
 //! The areas of address spaces.
 
-ghost use Rattle.std.specs.Prelude.{◌≡◌, ◌==◌, not, filter};
+ghost use Rattle.std.specs.Prelude.{◌≡◌, ◌==◌, ◌&&◌, not, filter};
 ghost use Rattle.std.specs.Option.{option_copied};
 ghost use Rattle.iofd_words.specs.Areas.{all_paid, area_at, areas_of, is_of, paid, with_phase};
+ghost use Rattle.iofd_words.specs.Span.{holds};
 
 use iofd_words::{Area, DeviceNo, FileNo, ObjId, Phase};
 use std::alloc::Allocator;
@@ -14,14 +15,23 @@ pub fn is_of(file: FileNo, ioas: ObjId, area: &Area) -> bool
     area.file.0 == file.0 && area.ioas.0 == ioas.0
 }
 
+// Whether it is one that holds the address.
+fn has_at(area: &Area, file: FileNo, ioas: ObjId, address: u64) -> bool
+    ensures { result ≡ (is_of file ioas area.now && holds area.now.span address) }
+{
+    is_of(file, ioas, area) && area.span.holds(address)
+}
+
 /// The area of the address space that holds the address.
 pub fn area_at(areas: &[Area], file: FileNo, ioas: ObjId, address: u64) -> Option<&Area>
     ensures { option_copied result ≡ area_at address (areas_of areas.now file ioas) }
 {
-    areas
-        .iter()
-        .filter(move |area| is_of(file, ioas, area))
-        .find(move |area| area.span.holds(address))
+    for area in areas {
+        if has_at(area, file, ioas, address) {
+            return Some(area);
+        }
+    }
+    None
 }
 
 /// The device owes no area a flush any more.

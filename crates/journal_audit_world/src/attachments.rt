@@ -1,7 +1,6 @@
 //! Devices that translate by a hardware page table.
 
-ghost use Rattle.std.specs.Prelude.{◌≡◌, ◌==◌, not, filter};
-ghost use Rattle.std.specs.Option.{option_copied};
+ghost use Rattle.std.specs.Prelude.{◌≡◌, ◌==◌, ◌&&◌, not, filter};
 ghost use Rattle.iofd_words.specs.Attachments.{attachment_of, has_device_on, ioas_of, ioas_of_attachment};
 ghost use Rattle.iofd_words.specs.Attachments.{is_attached_to};
 ghost use Rattle.iofd_words.specs.Attachments.{without_attachment};
@@ -14,24 +13,31 @@ use std::alloc::Allocator;
 pub fn attachment_of(attachments: &[Attachment], device: DeviceNo) -> Option<Attachment>
     ensures { result ≡ attachment_of attachments.now device }
 {
-    found(attachments, device).copied()
+    for attachment in attachments {
+        if attachment.device.0 == device.0 {
+            return Some(*attachment);
+        }
+    }
+    None
 }
 
-// The attachment of a device, in its place.
-fn found(attachments: &[Attachment], device: DeviceNo) -> Option<&Attachment>
-    ensures { option_copied result ≡ attachment_of attachments.now device }
+// Whether it is by this page table.
+fn is_on(file: FileNo, hwpt: ObjId, attachment: Attachment) -> bool
+    ensures { result ≡ (attachment.file.0 == file.0 && attachment.hwpt.0 == hwpt.0) }
 {
-    attachments
-        .iter()
-        .find(move |attachment| attachment.device.0 == device.0)
+    attachment.file.0 == file.0 && attachment.hwpt.0 == hwpt.0
 }
 
 /// Whether some device translates by this page table.
 pub fn has_device_on(attachments: &[Attachment], file: FileNo, hwpt: ObjId) -> bool
     ensures { result ≡ has_device_on attachments.now file hwpt }
 {
-    attachments.iter().any(move |attachment| attachment.file.0 == file.0
-        && attachment.hwpt.0 == hwpt.0)
+    for attachment in attachments {
+        if is_on(file, hwpt, *attachment) {
+            return true;
+        }
+    }
+    false
 }
 
 /// The address space of a page table.

@@ -1,6 +1,6 @@
 //! Users' pages and the frames of the pool.
 
-ghost use Rattle.std.specs.Prelude.{◌≡◌, ◌==◌, ◌||◌, ◌<◌, ◌≤◌, ℕ, not, length, false, slice_index_or};
+ghost use Rattle.std.specs.Prelude.{◌≡◌, ◌==◌, ◌&&◌, ◌||◌, ◌<◌, ◌≤◌, ℕ, not, length, false, slice_index_or};
 ghost use Rattle.std.specs.List.{count_by, list_any, range_with_len};
 ghost use Rattle.iofd_words.specs.Frames.{frame_at, free_count, is_free, is_reached, without_page};
 
@@ -10,32 +10,56 @@ use std::alloc::Allocator;
 // The most frames that a pool has.
 const MOST: usize = 4096;
 
+// Whether it is the row of the user's page.
+fn is_page_of(user: UserNo, page: u64, row: UserPage) -> bool
+    ensures { result ≡ (row.user.0 == user.0 && row.page == page) }
+{
+    row.user.0 == user.0 && row.page == page
+}
+
 /// The frame of a page in a user's memory.
 pub fn frame_at(pages: &[UserPage], user: UserNo, page: u64) -> Option<FrameNo>
     ensures { result ≡ frame_at pages.now user page }
 {
-    let found = pages
-        .iter()
-        .find(move |other| other.user.0 == user.0 && other.page == page)?;
-    Some(found.frame)
+    for other in pages {
+        if is_page_of(user, page, *other) {
+            return Some(other.frame);
+        }
+    }
+    None
 }
 
 fn has_page(pages: &[UserPage], frame: u32) -> bool
     ensures { result ≡ list_any (λ p. p.frame.0 == frame) pages.now }
 {
-    pages.iter().any(move |page| page.frame.0 == frame)
+    for page in pages {
+        if page.frame.0 == frame {
+            return true;
+        }
+    }
+    false
 }
 
 fn has_pin(pins: &[Pin], frame: u32) -> bool
     ensures { result ≡ list_any (λ pin. pin.frame.0 == frame) pins.now }
 {
-    pins.iter().any(move |pin| pin.frame.0 == frame)
+    for pin in pins {
+        if pin.frame.0 == frame {
+            return true;
+        }
+    }
+    false
 }
 
 fn has_table(tables: &[TableFrame], frame: u32) -> bool
     ensures { result ≡ list_any (λ table. table.frame.0 == frame) tables.now }
 {
-    tables.iter().any(move |table| table.frame.0 == frame)
+    for table in tables {
+        if table.frame.0 == frame {
+            return true;
+        }
+    }
+    false
 }
 
 /// Whether it is a frame of the pool that nobody reaches.

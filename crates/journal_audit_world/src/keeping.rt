@@ -9,13 +9,14 @@ ghost use Rattle.iofd_words.specs.Pins.{is_accessed, is_pinned, page_of_pin};
 ghost use Rattle.iofd_words.specs.declared.numbers.FileNo.{FileNo};
 ghost use Rattle.iofd_words.specs.declared.numbers.ObjId.{ObjId};
 ghost use Rattle.iofd_words.specs.declared.rows.Phase.TheVariants as phase;
-ghost use Rattle.journal_audit_index.specs.Keys.{has_number, has_pair};
+ghost use Rattle.journal_audit_world.specs.Keys.{has_number, has_pair};
 ghost use Rattle.journal_audit_world.specs.Over.{is_over};
 
+use crate::numbers::Numbers;
 use crate::over::used_of;
+use crate::pairs::Pairs;
 use crate::pins::is_accessed;
 use iofd_words::{AccessPin, Area, MemoryObject, NoMemory, Object, ObjectKind, Phase, Pin};
-use journal_audit_index::{Numbers, Pairs};
 use std::alloc::Allocator;
 
 /// The memory objects that no area is over any more go. Areas are gone through once, and memory objects once. Its only
@@ -104,6 +105,13 @@ fn as_live(area: &Area) -> Area
     }
 }
 
+// Whether it is over a memory object that is asked for and that no page table translates.
+fn is_left<A: Allocator>(asked: &Numbers<A>, translated: &Numbers<A>, area: &Area) -> bool
+    ensures { result ≡ (has_number asked.now area.now.memory && not (has_number translated.now area.now.memory)) }
+{
+    asked.has(area.memory) && !translated.has(area.memory)
+}
+
 // The areas over the memory objects that are asked for and that no page table translates.
 fn areas_left<A: Allocator + Copy>(
     alloc: A,
@@ -114,11 +122,12 @@ fn areas_left<A: Allocator + Copy>(
     ensures { IfOk result (λ left. left.items ≡ map (with_phase phase.Live)
         (filter (λ area. has_number asked.now area.memory && not (has_number translated.now area.memory)) areas.now)) }
 {
-    let left = areas
-        .iter()
-        .filter(|area| asked.has(area.memory) && !translated.has(area.memory))
-        .map(|area| as_live(area))
-        .collect(alloc)?;
+    let mut left = Vec::new(alloc);
+    for area in areas {
+        if is_left(asked, translated, area) {
+            left.push(as_live(area))?;
+        }
+    }
     Ok(left)
 }
 

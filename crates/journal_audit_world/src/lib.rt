@@ -9,13 +9,16 @@ pub mod files;
 pub mod frames;
 pub mod keeping;
 pub mod memory;
+mod numbers;
 pub mod objects;
 pub mod over;
 pub mod pages;
+mod pairs;
 pub mod pins;
 pub mod tables;
 pub mod tracked;
-pub mod usable;
 mod world;
 
+pub use numbers::Numbers;
+pub use pairs::Pairs;
 pub use world::{AllowedRow, World};

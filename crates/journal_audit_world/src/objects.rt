@@ -2,7 +2,6 @@
 
 ghost use Rattle.std.specs.Prelude.{◌≡◌, ◌==◌, ◌≤◌, ◌∷◌, ◌++◌, ◌&&◌, not, length, take, drop, filter, IfOk};
 ghost use Rattle.std.specs.Prelude.{if◌then◌else◌};
-ghost use Rattle.std.specs.Option.{option_copied};
 ghost use Rattle.iofd_words.specs.Objects.{access_ioas, access_ioas_of, binding_of, comes_before, device_in};
 ghost use Rattle.iofd_words.specs.Objects.{has_access};
 ghost use Rattle.iofd_words.specs.Objects.{has_access_to, has_hwpt, has_ioas, is_access, is_access_to, is_automatic};
@@ -110,8 +109,12 @@ pub fn is_access_to(ioas: ObjId, kind: ObjectKind) -> bool
 pub fn kind_of(objects: &[Object], file: FileNo, id: ObjId) -> Option<ObjectKind>
     ensures { result ≡ kind_of objects.now file id }
 {
-    let object = objects.iter().find(move |object| object.file.0 == file.0 && object.id.0 == id.0)?;
-    Some(object.kind)
+    for object in objects {
+        if is_object(file, id, *object) {
+            return Some(object.kind);
+        }
+    }
+    None
 }
 
 /// Whether the file has an address space of this id.
@@ -134,18 +137,42 @@ pub fn is_hwpt_under(objects: &[Object], file: FileNo, id: ObjId) -> bool
     }
 }
 
+/// Whether it is a hardware page table over the file's address space.
+pub fn is_hwpt_of(file: FileNo, ioas: ObjId, object: Object) -> bool
+    ensures { result ≡ (object.file.0 == file.0 && is_hwpt_over ioas object.kind) }
+{
+    object.file.0 == file.0 && is_hwpt_over(ioas, object.kind)
+}
+
 /// Whether the address space has a hardware page table.
 pub fn has_hwpt(objects: &[Object], file: FileNo, ioas: ObjId) -> bool
     ensures { result ≡ has_hwpt objects.now file ioas }
 {
-    objects.iter().any(move |object| object.file.0 == file.0 && is_hwpt_over(ioas, object.kind))
+    for object in objects {
+        if is_hwpt_of(file, ioas, *object) {
+            return true;
+        }
+    }
+    false
+}
+
+// Whether it is an access object that is attached to the file's address space.
+fn is_access_of(file: FileNo, ioas: ObjId, object: Object) -> bool
+    ensures { result ≡ (object.file.0 == file.0 && is_access_to ioas object.kind) }
+{
+    object.file.0 == file.0 && is_access_to(ioas, object.kind)
 }
 
 /// Whether an access object is attached to the address space.
 pub fn has_access_to(objects: &[Object], file: FileNo, ioas: ObjId) -> bool
     ensures { result ≡ has_access_to objects.now file ioas }
 {
-    objects.iter().any(move |object| object.file.0 == file.0 && is_access_to(ioas, object.kind))
+    for object in objects {
+        if is_access_of(file, ioas, *object) {
+            return true;
+        }
+    }
+    false
 }
 
 /// Whether the file has an access object of this id.
@@ -172,16 +199,12 @@ pub fn access_ioas_of(objects: &[Object], file: FileNo, id: ObjId) -> Option<Obj
 pub fn binding_of(objects: &[Object], device: DeviceNo) -> Option<Object>
     ensures { result ≡ binding_of objects.now device }
 {
-    bound_by(objects, device).copied()
-}
-
-// The object by which a device is bound, in its place.
-fn bound_by(objects: &[Object], device: DeviceNo) -> Option<&Object>
-    ensures { option_copied result ≡ binding_of objects.now device }
-{
-    objects
-        .iter()
-        .find(move |object| is_bound_as(device, object.kind))
+    for object in objects {
+        if is_bound_as(device, object.kind) {
+            return Some(*object);
+        }
+    }
+    None
 }
 
 /// Whether the file has as many objects as it may have.
@@ -195,10 +218,13 @@ pub fn is_full(objects: &[Object], file: FileNo) -> bool
 fn count_of(objects: &[Object], file: FileNo) -> usize
     ensures { result ≡ length (objects_of objects.now file) }
 {
-    objects
-        .iter()
-        .filter(move |object| object.file.0 == file.0)
-        .count()
+    let mut count: usize = 0;
+    for object in objects {
+        if object.file.0 == file.0 {
+            count += 1;
+        }
+    }
+    count
 }
 
 /// Whether the id may be given out.

@@ -3,12 +3,12 @@
 ghost use Rattle.std.specs.Prelude.{◌≡◌, ◌==◌, ◌&&◌, ◌||◌, ℕ, IfOk};
 ghost use Rattle.iofd_words.specs.Areas.{is_of};
 ghost use Rattle.iofd_words.specs.Span.{meets};
-ghost use Rattle.journal_audit_index.specs.Keys.{has_number};
+ghost use Rattle.journal_audit_world.specs.Keys.{has_number};
 ghost use Rattle.journal_audit_world.specs.Over.{is_over};
 
 use crate::areas::is_of;
+use crate::numbers::Numbers;
 use iofd_words::{Area, FileNo, NoMemory, ObjId};
-use journal_audit_index::Numbers;
 use std::alloc::Allocator;
 
 /// Those of areas of the address space are added.

@@ -8,14 +8,23 @@ ghost use Rattle.iofd_words.specs.Span.{lies_in};
 use crate::objects::access_ioas_of;
 use iofd_words::{AccessPin, Area, FrameNo, Object, Pin};
 
+// Whether it is the pin of this page.
+fn is_pin_of(memory: u64, index: u64, pin: Pin) -> bool
+    ensures { result ≡ (pin.memory == memory && pin.index == index) }
+{
+    pin.memory == memory && pin.index == index
+}
+
 /// The frame that a page of a memory object was pinned at.
 pub fn pinned_frame(pins: &[Pin], memory: u64, index: u64) -> Option<FrameNo>
     ensures { result ≡ pinned_frame pins.now (record { memory = memory; index = index }) }
 {
-    let pin = pins
-        .iter()
-        .find(move |pin| pin.memory == memory && pin.index == index)?;
-    Some(pin.frame)
+    for pin in pins {
+        if is_pin_of(memory, index, *pin) {
+            return Some(pin.frame);
+        }
+    }
+    None
 }
 
 // Whether the access object of the pin is attached to the area's address space, and the page of the area lies in the
@@ -40,6 +49,13 @@ fn has_page(pin: &AccessPin, area: &Area, index: u64) -> bool
     u128::from(pin.span.first()) <= first && first + 4095 <= u128::from(pin.span.last())
 }
 
+// Whether the area is over the memory object, and the access pin covers the page in it.
+fn covers_in(objects: &[Object], pin: &AccessPin, memory: u64, index: u64, area: &Area) -> bool
+    ensures { result ≡ (area.now.memory == memory && covers_page objects.now index pin.now area.now) }
+{
+    area.memory == memory && covers_page(objects, index, pin, area)
+}
+
 // Whether the access pin covers the page in some area.
 fn is_accessed_by(
     objects: &[Object],
@@ -51,7 +67,12 @@ fn is_accessed_by(
     ensures { result
         ≡ list_any (λ area. area.memory == memory && covers_page objects.now index pin.now area) areas.now }
 {
-    areas.iter().any(move |area| area.memory == memory && covers_page(objects, index, pin, area))
+    for area in areas {
+        if covers_in(objects, pin, memory, index, area) {
+            return true;
+        }
+    }
+    false
 }
 
 /// Whether some access pin covers the page, in some area over its memory object.
@@ -64,5 +85,10 @@ pub fn is_accessed(
 ) -> bool
     ensures { result ≡ is_accessed objects.now areas.now access_pins.now (record { memory = memory; index = index }) }
 {
-    access_pins.iter().any(move |pin| is_accessed_by(objects, areas, pin, memory, index))
+    for pin in access_pins {
+        if is_accessed_by(objects, areas, pin, memory, index) {
+            return true;
+        }
+    }
+    false
 }

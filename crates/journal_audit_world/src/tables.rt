@@ -10,7 +10,12 @@ use std::alloc::Allocator;
 pub fn is_among(frames: &[FrameNo], frame: FrameNo) -> bool
     ensures { result ≡ is_among frames.now frame }
 {
-    frames.iter().any(move |other| other.0 == frame.0)
+    for other in frames {
+        if other.0 == frame.0 {
+            return true;
+        }
+    }
+    false
 }
 
 /// Whether each frame is above those before it.

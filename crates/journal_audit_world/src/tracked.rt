@@ -7,11 +7,11 @@ ghost use Rattle.std.specs.List.{list_any};
 ghost use Rattle.iofd_words.specs.Dirty.{has_mark, is_marked, is_tracked_as, reported_span, reported_words, tracks};
 ghost use Rattle.iofd_words.specs.Dirty.{with_mark, with_tracking, without_marks, without_tracked};
 ghost use Rattle.iofd_words.specs.DirtyWords.{is_page_of, is_reported};
-ghost use Rattle.journal_audit_index.specs.Keys.{has_number};
+ghost use Rattle.journal_audit_world.specs.Keys.{has_number};
 ghost use Rattle.journal_audit_world.specs.Tracked.{bits, with_page, without_pages};
 
+use crate::numbers::Numbers;
 use iofd_words::{DirtyRequest, FileNo, NoMemory, ObjId, PAGE_SIZE};
-use journal_audit_index::Numbers;
 use std::alloc::{Allocator, Global};
 use std::marker::Model;
 
@@ -43,8 +43,12 @@ fn is_of<A: Allocator>(file: FileNo, hwpt: ObjId, row: &TrackedRow<A>) -> bool
 pub fn is_tracked<A: Allocator>(rows: &[TrackedRow<A>], file: FileNo, hwpt: ObjId) -> bool
     ensures { result ≡ tracks rows.now file hwpt }
 {
-    rows.iter()
-        .any(move |row| row.file.0 == file.0 && row.hwpt.0 == hwpt.0)
+    for row in rows {
+        if is_of(file, hwpt, row) {
+            return true;
+        }
+    }
+    false
 }
 
 /// The page table isn't tracked any more.

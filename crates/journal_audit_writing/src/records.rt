@@ -14,7 +14,7 @@ use iofd_words::{Config, NoMemory, Record};
 use std::alloc::Allocator;
 
 /// Why a record wasn't written.
-#[derive(Clone, Copy, PartialEq, Eq, Debug)]
+#[derive(Clone, Copy)]
 pub enum WriteError {
     /// The record has no spelling.
     Unspelt,

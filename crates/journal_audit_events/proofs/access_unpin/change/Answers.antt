@@ -1,4 +1,4 @@
-use Rattle.std.proofs.Common.{refl, ◌∙◌}
+use Rattle.std.proofs.Common.{refl}
 use Rattle.std.proofs.lemmas.Result.{IfOk-weaker}
 use Rattle.journal_audit_events.proofs.Going.{unpin_done}
 use Rattle.journal_audit_events.proofs.Unpinned.{never_unattached, unpin_pinned}

@@ -1,4 +1,4 @@
-use Rattle.journal_audit_index.specs.Pages.{frame_in}
+use Rattle.journal_audit_page_tables.specs.PageSets.{frame_in}
 use Rattle.journal_audit_page_tables.specs.Listed.{own_frame}
 use Rattle.journal_audit_page_tables.proofs.ListedPages.{Lists}
 use Rattle.journal_audit_page_tables.proofs.listing.list_pages.Given as goal

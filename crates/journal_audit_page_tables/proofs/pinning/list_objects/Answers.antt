@@ -1,6 +1,6 @@
 use Rattle.std.proofs.Common.{false}
 use Rattle.iofd_words.specs.declared.rows.MemoryObject.{MemoryObject}
-use Rattle.journal_audit_index.specs.Pages.{frame_in}
+use Rattle.journal_audit_page_tables.specs.PageSets.{frame_in}
 use Rattle.journal_audit_page_tables.proofs.ListedObjects.{ends_in_time, object_absent, object_listed, objects_end}
 use Rattle.journal_audit_page_tables.proofs.pinning.list_objects.Goals as goal
 

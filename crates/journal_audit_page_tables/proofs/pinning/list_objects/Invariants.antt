@@ -1,4 +1,4 @@
-use Rattle.journal_audit_index.specs.Pages.{frame_in}
+use Rattle.journal_audit_page_tables.specs.PageSets.{frame_in}
 use Rattle.journal_audit_page_tables.proofs.ListedObjects.{ListsLeft}
 use Rattle.journal_audit_page_tables.proofs.pinning.list_objects.Given as goal
 

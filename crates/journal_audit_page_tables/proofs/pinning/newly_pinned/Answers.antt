@@ -5,8 +5,8 @@ use Rattle.iofd_words.specs.Areas.{areas_of, is_of}
 use Rattle.iofd_words.specs.World.{World}
 use Rattle.iofd_words.specs.declared.rows.Area.{Area}
 use Rattle.iofd_words.specs.declared.rows.MemoryObject.{MemoryObject}
-use Rattle.journal_audit_index.specs.Keys.{has_number}
-use Rattle.journal_audit_index.specs.Pages.{frame_in}
+use Rattle.journal_audit_world.specs.Keys.{has_number}
+use Rattle.journal_audit_page_tables.specs.PageSets.{frame_in}
 use Rattle.journal_audit_page_tables.specs.Listed.{has_few_pages}
 use Rattle.journal_audit_page_tables.proofs.ListedObjects.{all_gathered, few_pages, none_gathered}
 use Rattle.journal_audit_page_tables.proofs.Told.{if_ok, if_some}

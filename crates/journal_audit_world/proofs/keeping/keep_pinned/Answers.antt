@@ -2,7 +2,7 @@ use Rattle.std.proofs.Common.{rules, not, ◌||◌, refl}
 use Rattle.std.proofs.lemmas.Fn.{filter_same}
 use Rattle.iofd_words.specs.Pins.{is_accessed, page_of_pin}
 use Rattle.iofd_words.specs.declared.rows.Pin.{Pin}
-use Rattle.journal_audit_index.specs.Keys.{has_number}
+use Rattle.journal_audit_world.specs.Keys.{has_number}
 use Rattle.journal_audit_world.proofs.Kept.{pinned_alike}
 use Rattle.journal_audit_world.proofs.keeping.keep_pinned.Goals as goal
 

@@ -1,7 +1,7 @@
 use Rattle.std.proofs.Common.{rules, not, ◌||◌}
 use Rattle.std.proofs.lemmas.Fn.{filter_same}
 use Rattle.iofd_words.specs.declared.rows.MemoryObject.{MemoryObject}
-use Rattle.journal_audit_index.specs.Keys.{has_number}
+use Rattle.journal_audit_world.specs.Keys.{has_number}
 use Rattle.journal_audit_world.proofs.Kept.{used_alike}
 use Rattle.journal_audit_world.proofs.keeping.keep_used.Goals as goal
 

@@ -1,7 +1,7 @@
 use Rattle.std.proofs.Common.{◌&&◌, ap, ◌∙◌}
 use Rattle.iofd_words.specs.Objects.{has_hwpt}
 use Rattle.iofd_words.specs.declared.rows.Area.{Area}
-use Rattle.journal_audit_index.specs.Keys.{has_number}
+use Rattle.journal_audit_world.specs.Keys.{has_number}
 use Rattle.journal_audit_world.specs.Over.{is_over}
 use Rattle.journal_audit_world.proofs.AreasOver.{none_over_yet, row_over}
 use Rattle.journal_audit_world.proofs.keeping.translated_of.Goals as goal

@@ -1,7 +1,7 @@
 use Rattle.std.proofs.Common.{◌≡◌, ◌||◌, ◌&&◌, ℕ, drop}
 use Rattle.iofd_words.specs.Areas.{is_of}
 use Rattle.iofd_words.specs.Span.{meets}
-use Rattle.journal_audit_index.specs.Keys.{has_number}
+use Rattle.journal_audit_world.specs.Keys.{has_number}
 use Rattle.journal_audit_world.specs.Over.{is_over}
 use Rattle.journal_audit_world.proofs.over.add_meeting.Given as goal
 

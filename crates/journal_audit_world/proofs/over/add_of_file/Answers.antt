@@ -1,6 +1,6 @@
 use Rattle.std.proofs.Common.{◌||◌, eqb, refl}
 use Rattle.iofd_words.specs.declared.rows.Area.{Area}
-use Rattle.journal_audit_index.specs.Keys.{has_number}
+use Rattle.journal_audit_world.specs.Keys.{has_number}
 use Rattle.journal_audit_world.specs.Over.{is_over}
 use Rattle.journal_audit_world.proofs.AreasOver.{row_over}
 use Rattle.journal_audit_world.proofs.over.add_of_file.Goals as goal

@@ -1,5 +1,5 @@
 use Rattle.iofd_words.specs.declared.rows.Area.{Area}
-use Rattle.journal_audit_index.specs.Keys.{has_number}
+use Rattle.journal_audit_world.specs.Keys.{has_number}
 use Rattle.journal_audit_world.specs.Over.{is_over}
 use Rattle.journal_audit_world.proofs.AreasOver.{none_over_yet, row_over}
 use Rattle.journal_audit_world.proofs.over.used_of.Goals as goal

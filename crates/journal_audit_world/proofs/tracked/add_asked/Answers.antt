@@ -3,7 +3,7 @@ use Rattle.std.proofs.lemmas.List.{get_or_default}
 use Rattle.std.specs.List.{list_any}
 use Rattle.iofd_words.specs.Dirty.{reported_span}
 use Rattle.iofd_words.specs.DirtyWords.{is_page_of}
-use Rattle.journal_audit_index.specs.Keys.{has_number}
+use Rattle.journal_audit_world.specs.Keys.{has_number}
 use Rattle.journal_audit_world.proofs.TrackedWords.{no_page_more, page_more}
 use Rattle.journal_audit_world.proofs.tracked.add_asked.Goals as goal
 

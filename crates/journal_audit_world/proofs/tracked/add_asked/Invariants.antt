@@ -2,7 +2,7 @@ use Rattle.std.proofs.Common.{◌≡◌, ◌==◌, ◌&&◌, ◌||◌, ℕ, drop
 use Rattle.std.specs.List.{list_any}
 use Rattle.iofd_words.specs.Dirty.{reported_span}
 use Rattle.iofd_words.specs.DirtyWords.{is_page_of}
-use Rattle.journal_audit_index.specs.Keys.{has_number}
+use Rattle.journal_audit_world.specs.Keys.{has_number}
 use Rattle.journal_audit_world.proofs.tracked.add_asked.Given as goal
 
 abbrev pub invariant-loop-page : goal.invariant-loop-page

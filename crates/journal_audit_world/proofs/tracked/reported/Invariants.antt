@@ -1,7 +1,7 @@
 use Rattle.std.proofs.Common.{◌≡◌, ◌&&◌, ◌||◌, ℕ, drop}
 use Rattle.iofd_words.specs.Dirty.{is_marked, reported_span}
 use Rattle.iofd_words.specs.DirtyWords.{is_page_of, is_reported}
-use Rattle.journal_audit_index.specs.Keys.{has_number}
+use Rattle.journal_audit_world.specs.Keys.{has_number}
 use Rattle.journal_audit_world.proofs.tracked.reported.Given as goal
 
 abbrev pub invariant-loop-row : goal.invariant-loop-row

@@ -1,5 +1,5 @@
 use Rattle.std.proofs.Common.{◌+◌, arith}
-use Rattle.journal_audit_index.specs.Keys.{has_number}
+use Rattle.journal_audit_world.specs.Keys.{has_number}
 use Rattle.journal_audit_world.proofs.TrackedWords.{none_yet, word_fits, word_more}
 use Rattle.journal_audit_world.proofs.tracked.word.Goals as goal
 

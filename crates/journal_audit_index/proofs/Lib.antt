@@ -1,2 +1,0 @@
-pub mod Indexed
-pub mod Keyed

@@ -1,3 +1,0 @@
-pub mod Own
-pub mod Rows
-pub mod Starts

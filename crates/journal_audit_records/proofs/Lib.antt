@@ -1,2 +1,0 @@
-mod ComingFits
-mod Lawfully
