@@ -1,13 +1,13 @@
 -- Whether areas of whole pages lie under each page of a span of whole pages, and which pages a pin of the span pins.
 use Rattle.std.proofs.Common.{◌≡◌, ℕ, zero, suc, ◌+◌, ◌-◌, ◌*◌, ◌/◌, ◌%◌, ◌^◌, ◌<◌, ◌≤◌, Bool, true, false, ◌&&◌}
 use Rattle.std.proofs.Common.{◌||◌, not}
-use Rattle.std.proofs.Common.{◌↔◌, Result, Ok, Err, IsOk, is_err, eqb, leb, List, [], ◌∷◌, map, refl, ap, sym, ◌∙◌}
-use Rattle.std.proofs.Common.{arith}
+use Rattle.std.proofs.Common.{MatchBool, eqb, leb, List, [], ◌∷◌, map, refl, ap, sym, ◌∙◌, arith}
 use Rattle.std.specs.List.{filter, list_all, list_any, range_with_len}
 use Rattle.std.proofs.Math.Nat.{div-add-mod, mod-lt}
 use Rattle.std.proofs.lemmas.Bool.{eqb-true}
 use Rattle.std.proofs.lemmas.Bool.Decides.{nat_tests}
-use Rattle.area_map_rows.specs.Areas.{IsCovered}
+use Rattle.area_map_rows.proofs.Kept.{gap_tells}
+use Rattle.area_map_rows.specs.Areas.{HasGap, IsCovered, areas_meeting}
 use Rattle.access_pins.proofs.Spanned.{whole_is}
 use Rattle.iofd_rows.proofs.Bools.{and_true, both_false, both_true, or_false}
 use Rattle.iofd_rows.proofs.Each.{of_any, of_each}
@@ -95,7 +95,7 @@ module _ (span : Bounds) (areas : List Area) (whole : is_whole_pages span ≡ tr
         search (none, arith, nat_tests)
 
     -- where each address lies in an area, each page does
-    pub no_gap : list_all is_of_pages areas ≡ true → list_all begins_at_page areas ≡ true → IsCovered span areas
+    no_gap : list_all is_of_pages areas ≡ true → list_all begins_at_page areas ≡ true → IsCovered span areas
         → has_gap span areas ≡ false
     no_gap sizes starts covered =
         any_mapped is_bare page_at (range_with_len 0 (size_of span / 4096))
@@ -110,7 +110,7 @@ module _ (span : Bounds) (areas : List Area) (whole : is_whole_pages span ≡ tr
         (of_each begins_at_page areas area starts among) pages (whole_page i) here)))
 
     -- and where each page does, each address
-    pub covered_by_pages : has_gap span areas ≡ false → IsCovered span areas
+    covered_by_pages : has_gap span areas ≡ false → IsCovered span areas
     covered_by_pages none n low high =
         let count = count_is in
         let parts = div-add-mod (n - span.first) 4096 in
@@ -140,12 +140,39 @@ module _ (span : Bounds) (areas : List Area) (whole : is_whole_pages span ≡ tr
             let two : n ≤ last = omega (arith, high, to) in
             both_true (leb first n) (leb n last) (search (one, arith, nat_tests)) (search (two, arith, nat_tests))
 
--- what is told of a cover tells of gaps
-pub gap_told : {X Y : Type 0} (told : Result X Y) (C : Type 0) (gap err : Bool) → (C → gap ≡ false)
-    → (gap ≡ false → C) → (IsOk told ↔ C) → err ≡ is_err told → err ≡ gap
-gap_told (Ok x) C gap err none some covers is = is ∙ sym (none (covers.0 refl))
-gap_told (Err e) C gap err none some covers is = is ∙ sym (by_gap gap refl)
-  where
-    by_gap : (b : Bool) → gap ≡ b → b ≡ true
-    by_gap true same = refl
-    by_gap false same = covers.1 (some same)
+    -- what the areas that meet the span hold of it, all hold
+    covered_by_all : IsCovered span (areas_meeting span areas) → IsCovered span areas
+    covered_by_all covered n low high =
+        any_weaker (λ (area : Area). meets area.span span && holds area.span n) (λ (area : Area). holds area.span n)
+        areas (λ area is. (and_true (meets area.span span) (holds area.span n) is).1)
+        (sym (any_met (λ (area : Area). holds area.span n) span areas) ∙ covered n low high)
+
+    -- and what all hold of it, those that meet it do
+    covered_by_met : IsCovered span areas → IsCovered span (areas_meeting span areas)
+    covered_by_met covered n low high =
+        any_met (λ (area : Area). holds area.span n) span areas
+        ∙ any_weaker (λ (area : Area). holds area.span n) (λ (area : Area). meets area.span span && holds area.span n)
+        areas (λ area held. both_true (meets area.span span) (holds area.span n) (met area.span held) held)
+        (covered n low high)
+      where
+        met : (b : Bounds) → holds b n ≡ true → meets b span ≡ true
+        met b held =
+            let ends = and_true (leb b.first n) (leb n b.last) held in
+            let from : b.first ≤ n = let is = ends.0 in search (is, arith, nat_tests) in
+            let to : n ≤ b.last = let is = ends.1 in search (is, arith, nat_tests) in
+            let one : b.first ≤ span.last = omega (arith, from, high) in
+            let two : span.first ≤ b.last = omega (arith, to, low) in
+            both_true (leb b.first span.last) (leb span.first b.last) (search (one, arith, nat_tests))
+            (search (two, arith, nat_tests))
+
+    -- where the areas that meet the span hold it no page lies in none, and else one does
+    pub gap_told : list_all is_of_pages areas ≡ true → list_all begins_at_page areas ≡ true → (b : Bool)
+        → MatchBool b (IsCovered span (areas_meeting span areas)) (HasGap span (areas_meeting span areas))
+        → not b ≡ has_gap span areas
+    gap_told sizes starts true covered = sym (no_gap sizes starts (covered_by_all covered))
+    gap_told sizes starts false gap = sym (by_gap (has_gap span areas) refl)
+      where
+        by_gap : (b : Bool) → has_gap span areas ≡ b → b ≡ true
+        by_gap true same = refl
+        by_gap false same =
+            absurd (gap_tells span (areas_meeting span areas) gap (covered_by_met (covered_by_pages same)))

@@ -167,10 +167,10 @@ fn refusal_under<A: Allocator>(
         ∷ (Cause.Account, passes_limit_accessed (seen state.now) file ioas span)
         ∷ []) }
 {
-    if has_gap(areas, span) {
+    let met = meeting(areas, span);
+    if has_gap(areas, met.again(), span) {
         return Some(Cause::Span);
     }
-    let met = meeting(areas, span);
     if some_leaving(met.again()) {
         return Some(Cause::Leaving);
     }
@@ -212,15 +212,18 @@ fn refusal_by_pages<A: Allocator>(
     None
 }
 
-/// Whether some page of the span, which is of whole pages as the areas are, lies in no area.
-fn has_gap<A: Allocator>(areas: &Areas<A>, span: Span) -> bool
+/// Whether some page of the span, which is of whole pages as the areas are, lies in no area: it looks at those alone
+/// that meet the span, which these are.
+fn has_gap<A: Allocator>(areas: &Areas<A>, met: Iter<'_, A>, span: Span) -> bool
     requires span { is_whole_pages span ≡ true }
     requires sizes { list_all is_of_pages areas.now.areas ≡ true }
     requires starts { list_all begins_at_page areas.now.areas ≡ true }
+    requires met { met ≡ runs.meeting span areas.now.areas }
     ensures { result ≡ has_gap span areas.now.areas }
 {
+    areas.facts();
     span.facts();
-    areas.covered(span).is_err()
+    !met.cover(span)
 }
 
 /// Whether one of the areas is leaving.

@@ -1,11 +1,11 @@
 -- Areas that hold a span without a gap.
 use Rattle.std.proofs.Common.{◌≡◌, ℕ, suc, ◌+◌, ◌<◌, ◌≤◌, Bool, true, false, leb, ltb, List, [], ◌∷◌, drop, refl, sym}
-use Rattle.std.proofs.Common.{ap, arith, ⊎_elim, MatchBool}
-use Rattle.std.specs.List.{filter, prefix_len}
-use Rattle.std.proofs.lemmas.Bool.{cases_lt}
+use Rattle.std.proofs.Common.{ap, arith, ⊎_elim, MatchBool, subst, ◌&&◌}
+use Rattle.std.specs.List.{filter, list_all, prefix_len}
+use Rattle.std.proofs.lemmas.Bool.{and_parts, cases_lt}
 use Rattle.std.proofs.lemmas.Bool.Decides.{nat_tests}
 use Rattle.iofd_words.specs.Bounds.{Bounds}
-use Rattle.iofd_words.specs.Span.{holds}
+use Rattle.iofd_words.specs.Span.{holds, meets}
 use Rattle.iofd_words.specs.declared.rows.Area.{Area}
 use Rattle.area_map_rows.specs.Areas.{AreApartFrom, AreApart, runs_on, is_covered, IsCovered, HasGap}
 use Rattle.area_map_rows.proofs.Found.{find_none}
@@ -119,3 +119,19 @@ covers_after low span (x ∷ xs) apart ordered =
 pub is_covered-tells : (span : Bounds) (xs : List Area) → AreApart xs → span.first ≤ span.last
     → Settled (is_covered span xs) span xs
 is_covered-tells span xs apart ordered = covers_after 0 span xs apart ordered
+
+-- where all meet the span, all end in it or behind it
+reaching_met : (span : Bounds) (xs : List Area) → list_all (λ (a : Area). meets a.span span) xs ≡ true
+    → filter (λ (a : Area). leb span.first a.span.last) xs ≡ xs
+reaching_met span [] met = refl
+reaching_met span (x ∷ xs) met =
+    let parts = and_parts (meets x.span span) (list_all (λ (a : Area). meets a.span span) xs) met in
+    let reached = (and_parts (leb x.span.first span.last) (leb span.first x.span.last) parts.0).1 in
+    rw reached (ap (λ ys. x ∷ ys) (reaching_met span xs parts.1))
+
+-- areas that all meet the span hold it where they run on over it
+pub met_cover : (span : Bounds) (xs : List Area) → AreApart xs → span.first ≤ span.last
+    → list_all (λ (a : Area). meets a.span span) xs ≡ true → Settled (runs_on span.first span.last xs) span xs
+met_cover span xs apart ordered met =
+    subst (λ (ys : List Area). Settled (runs_on span.first span.last ys) span xs) (reaching_met span xs met)
+    (is_covered-tells span xs apart ordered)

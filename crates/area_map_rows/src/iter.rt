@@ -1,16 +1,18 @@
 //! Areas one after the other.
 
-ghost use Rattle.std.specs.Prelude.{◌≡◌, ◌≤◌, ◌∷◌, ◌++◌, [], List, length, if◌then◌else◌};
+ghost use Rattle.std.specs.Prelude.{◌≡◌, ◌≤◌, ◌∷◌, ◌++◌, [], List, length, if◌then◌else◌, MatchBool, true};
+ghost use Rattle.std.specs.List.{list_all};
 ghost use Rattle.std.specs.Option.{MatchOption};
 ghost use Rattle.std.specs.Iterator.{YieldsFirstRef, item_count};
-ghost use Rattle.area_map_rows.specs.Areas.{bytes_of};
+ghost use Rattle.area_map_rows.specs.Areas.{AreApart, HasGap, IsCovered, bytes_of};
 ghost use Rattle.area_map_rows.specs.Rows.{in_rows, AreRows, up_to};
 ghost use Rattle.iofd_words.specs.Areas.{most_areas};
+ghost use Rattle.iofd_words.specs.Span.{meets};
 ghost use Rattle.iofd_words.specs.declared.rows.Area.{Area};
 
 use crate::row::Row;
-use crate::totals;
-use iofd_words::Area;
+use crate::{lookups, totals};
+use iofd_words::{Area, Span};
 use std::alloc::{Allocator, Global};
 use std::marker::Model;
 
@@ -53,6 +55,15 @@ impl<'a, A: Allocator> Iter<'a, A> {
             rows: self.rows,
             last: self.last,
         }
+    }
+
+    /// Whether each address of the span, which all these areas meet, lies in one of them. It takes no search.
+    pub fn cover(&self, span: Span) -> bool
+        requires apart { AreApart self.now }
+        requires met { list_all (λ area. meets area.span span) self.now ≡ true }
+        ensures { MatchBool result (IsCovered span self.now) (HasGap span self.now) }
+    {
+        lookups::runs_on(self.again(), span.first(), span.last())
     }
 
     /// How many addresses the areas have together, of which there are no more than an address space may have. The

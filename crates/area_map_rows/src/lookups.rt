@@ -45,7 +45,7 @@ fn parts_below(areas: &[Area], address: u64) -> usize
 }
 
 /// How many areas end below the address.
-pub fn count_below(areas: &[Area], address: u64) -> usize
+pub(crate) fn count_below(areas: &[Area], address: u64) -> usize
     requires { AreApart areas.now }
     ensures value { result ≡ prefix_len (λ area. nat_lt area.span.last address) areas.now }
     ensures bound { result ≤ length areas.now }
@@ -77,7 +77,7 @@ pub fn count_until(areas: &[Area], address: u64) -> usize
 }
 
 /// How many areas begin below the address.
-pub fn count_before(areas: &[Area], address: u64) -> usize
+pub(crate) fn count_before(areas: &[Area], address: u64) -> usize
     requires { AreApart areas.now }
     ensures value { result ≡ prefix_len (λ area. nat_lt area.span.first address) areas.now }
     ensures bound { result ≤ length areas.now }
@@ -304,8 +304,8 @@ fn reaching<A: Allocator>(rows: &[Row<A>], address: u64) -> Iter<'_, A>
     Iter::new(&areas[count_below(areas, address)..], others, None)
 }
 
-// Whether the areas, from the first on, hold the addresses from `first` to `last` without a gap.
-fn runs_on<A: Allocator>(areas: Iter<'_, A>, first: u64, last: u64) -> bool
+/// Whether the areas, from the first on, hold the addresses from `first` to `last` without a gap.
+pub(crate) fn runs_on<A: Allocator>(areas: Iter<'_, A>, first: u64, last: u64) -> bool
     ensures { result ≡ runs_on first last areas.entry }
 {
     let mut next = first;

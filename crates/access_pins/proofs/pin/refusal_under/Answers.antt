@@ -46,11 +46,14 @@ pub has_gap-requires-clause-starts : goal.has_gap-requires-clause-starts
 has_gap-requires-clause-starts g c =
     (whole_areas c.args.state.now c.requires.known c.args.file c.args.ioas c.args.areas.now.areas c.requires.there).1
 
+pub has_gap-requires-clause-met : goal.has_gap-requires-clause-met
+has_gap-requires-clause-met g c = c.again.ensures ∙ c.meeting-met.ensures
+
 pub returns-then-some_leaving : goal.returns-then-some_leaving
 returns-then-some_leaving g c =
     let gap = ap (has_gap c.args.span) c.requires.there ∙ sym c.has_gap.ensures ∙ c.if-has_gap.false in
     let leaving = met_alike (λ (a : Area). not (is_live a.phase)) c.args.span _ c.args.areas.now.areas
-    c.meeting-met.result c.again.result c.some_leaving.result c.requires.there c.meeting-met.ensures c.again.ensures
+    c.meeting-met.result c.again-2.result c.some_leaving.result c.requires.there c.meeting-met.ensures c.again-2.ensures
     c.some_leaving.ensures in
     leaves _ _ _ _ _ _ gap (leaving ∙ c.if-some_leaving.true)
 
@@ -58,10 +61,10 @@ pub returns-then-some_without_right : goal.returns-then-some_without_right
 returns-then-some_without_right g c =
     let gap = ap (has_gap c.args.span) c.requires.there ∙ sym c.has_gap.ensures ∙ c.if-has_gap.false in
     let leaving = met_alike (λ (a : Area). not (is_live a.phase)) c.args.span _ c.args.areas.now.areas
-    c.meeting-met.result c.again.result c.some_leaving.result c.requires.there c.meeting-met.ensures c.again.ensures
+    c.meeting-met.result c.again-2.result c.some_leaving.result c.requires.there c.meeting-met.ensures c.again-2.ensures
     c.some_leaving.ensures in
     let right = met_alike (lacks_right c.args.write) c.args.span _ c.args.areas.now.areas c.meeting-met.result
-    c.again-2.result c.some_without_right.result c.requires.there c.meeting-met.ensures c.again-2.ensures
+    c.again-3.result c.some_without_right.result c.requires.there c.meeting-met.ensures c.again-3.ensures
     c.some_without_right.ensures in
     lacks _ _ _ _ _ _ gap (leaving ∙ c.if-some_leaving.false) (right ∙ c.if-some_without_right.true)
 
@@ -69,10 +72,10 @@ pub returns-then-is_full : goal.returns-then-is_full
 returns-then-is_full g c =
     let gap = ap (has_gap c.args.span) c.requires.there ∙ sym c.has_gap.ensures ∙ c.if-has_gap.false in
     let leaving = met_alike (λ (a : Area). not (is_live a.phase)) c.args.span _ c.args.areas.now.areas
-    c.meeting-met.result c.again.result c.some_leaving.result c.requires.there c.meeting-met.ensures c.again.ensures
+    c.meeting-met.result c.again-2.result c.some_leaving.result c.requires.there c.meeting-met.ensures c.again-2.ensures
     c.some_leaving.ensures in
     let right = met_alike (lacks_right c.args.write) c.args.span _ c.args.areas.now.areas c.meeting-met.result
-    c.again-2.result c.some_without_right.result c.requires.there c.meeting-met.ensures c.again-2.ensures
+    c.again-3.result c.some_without_right.result c.requires.there c.meeting-met.ensures c.again-3.ensures
     c.some_without_right.ensures in
     decides _ _ _ _ _ _ true gap (leaving ∙ c.if-some_leaving.false) (right ∙ c.if-some_without_right.false)
     (sym c.is_full.ensures ∙ c.if-is_full.true)
@@ -81,10 +84,10 @@ pub returns : goal.returns
 returns g c =
     let gap = ap (has_gap c.args.span) c.requires.there ∙ sym c.has_gap.ensures ∙ c.if-has_gap.false in
     let leaving = met_alike (λ (a : Area). not (is_live a.phase)) c.args.span _ c.args.areas.now.areas
-    c.meeting-met.result c.again.result c.some_leaving.result c.requires.there c.meeting-met.ensures c.again.ensures
+    c.meeting-met.result c.again-2.result c.some_leaving.result c.requires.there c.meeting-met.ensures c.again-2.ensures
     c.some_leaving.ensures in
     let right = met_alike (lacks_right c.args.write) c.args.span _ c.args.areas.now.areas c.meeting-met.result
-    c.again-2.result c.some_without_right.result c.requires.there c.meeting-met.ensures c.again-2.ensures
+    c.again-3.result c.some_without_right.result c.requires.there c.meeting-met.ensures c.again-3.ensures
     c.some_without_right.ensures in
     c.refusal_by_pages.ensures
     ∙ decides _ _ _ _ _ _ false gap (leaving ∙ c.if-some_leaving.false) (right ∙ c.if-some_without_right.false)
