@@ -1,6 +1,6 @@
 -- Areas that hold a span without a gap.
 use Rattle.std.proofs.Common.{◌≡◌, ℕ, suc, ◌+◌, ◌<◌, ◌≤◌, Bool, true, false, leb, ltb, List, [], ◌∷◌, drop, refl, sym}
-use Rattle.std.proofs.Common.{ap, arith, ⊎_elim, MatchBool, subst, ◌&&◌}
+use Rattle.std.proofs.Common.{ap, arith, ⊎_elim, MatchBool, subst}
 use Rattle.std.specs.List.{filter, list_all, prefix_len}
 use Rattle.std.proofs.lemmas.Bool.{and_parts, cases_lt}
 use Rattle.std.proofs.lemmas.Bool.Decides.{nat_tests}

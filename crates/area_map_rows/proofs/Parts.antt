@@ -1,6 +1,6 @@
 -- Areas that are passed over, since each ends below an address.
-use Rattle.std.proofs.Common.{◌≡◌, ℕ, zero, suc, ◌+◌, ◌<◌, ◌≤◌, true, false, ltb, leb, get_or, List, [], ◌∷◌, length}
-use Rattle.std.proofs.Common.{drop, Option, Some, find, refl, arith}
+use Rattle.std.proofs.Common.{◌≡◌, ℕ, zero, suc, ◌+◌, ◌<◌, ◌≤◌, ltb, leb, get_or, List, [], ◌∷◌, length}
+use Rattle.std.proofs.Common.{drop, find, refl, arith}
 use Rattle.std.proofs.lemmas.Bool.Decides.{nat_tests}
 use Rattle.std.specs.List.{prefix_len}
 use Rattle.iofd_words.specs.declared.rows.Area.{Area}

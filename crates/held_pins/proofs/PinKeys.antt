@@ -55,16 +55,16 @@ exact_keys : CmpEqualImpliesEq key_cmp
 exact_keys a b same =
     ap
     (λ (k : ℕ × Fields5). record {
-      file = k.0;
-      access = k.1.0;
-      ioas = k.1.1.0;
-      first = k.1.1.1.0;
-      last = k.1.1.1.1.0;
+      access = k.0;
+      ioas = k.1.0;
+      first = k.1.1.0;
+      last = k.1.1.1.0;
+      file = k.1.1.1.1.0;
       write = k.1.1.1.1.1;
     })
     (exact_pairs nat_cmp cmp5 exact_unsigned exact5
-    (a.file, (a.access, (a.ioas, (a.first, (a.last, a.write)))))
-    (b.file, (b.access, (b.ioas, (b.first, (b.last, b.write)))))
+    (a.access, (a.ioas, (a.first, (a.last, (a.file, a.write)))))
+    (b.access, (b.ioas, (b.first, (b.last, (b.file, b.write)))))
     same)
 
 equal_from_test : (o : Ordering) → is_eq o ≡ true → o ≡ Equal
@@ -155,6 +155,11 @@ regrouped : (x y z : Bool) → (x && (y && z)) ≡ ((x && y) && z)
 regrouped true y z = refl
 regrouped false y z = refl
 
+tested_first : (x y z : Bool) → (x && (y && z)) ≡ (y && (x && z))
+tested_first true y z = refl
+tested_first false true z = refl
+tested_first false false z = refl
+
 pub same_pins : (a b : PinKey) → is_at (key_cmp a) b ≡ is_pin (pin_of a) (pin_of b)
 same_pins a b =
     let file = a.file == b.file in
@@ -163,11 +168,15 @@ same_pins a b =
     let first = a.first == b.first in
     let last = a.last == b.last in
     let write = cond a.write b.write (not b.write) in
-    then_eq a.file b.file _ (access && (ioas && (first && (last && write))))
-    (then_eq a.access b.access _ (ioas && (first && (last && write)))
-    (then_eq a.ioas b.ioas _ (first && (last && write))
-    (then_eq a.first b.first _ (last && write)
-    (then_eq a.last b.last (bool_cmp a.write b.write) write (bools_eq a.write b.write)))))
+    then_eq a.access b.access _ (ioas && (first && (last && (file && write))))
+    (then_eq a.ioas b.ioas _ (first && (last && (file && write)))
+    (then_eq a.first b.first _ (last && (file && write))
+    (then_eq a.last b.last _ (file && write)
+    (then_eq a.file b.file (bool_cmp a.write b.write) write (bools_eq a.write b.write)))))
+    ∙ ap (λ (rest : Bool). access && (ioas && (first && rest))) (tested_first last file write)
+    ∙ ap (λ (rest : Bool). access && (ioas && rest)) (tested_first first file (last && write))
+    ∙ ap (λ (rest : Bool). access && rest) (tested_first ioas file (first && (last && write)))
+    ∙ tested_first access file (ioas && (first && (last && write)))
     ∙ regrouped file access (ioas && (first && (last && write)))
     ∙ regrouped (file && access) ioas (first && (last && write))
     ∙ regrouped (file && access && ioas) first (last && write)

@@ -21,9 +21,9 @@ use Rattle.held_pins.specs.declared.pin_counts.PinCounts.{PinCounts}
 -- field by field; those for reads alone before those for writes too
 abbrev pub key_cmp : PinKey → PinKey → Ordering
 key_cmp a b =
-    ordering_then (nat_cmp a.file b.file) (ordering_then (nat_cmp a.access b.access)
-    (ordering_then (nat_cmp a.ioas b.ioas) (ordering_then (nat_cmp a.first b.first)
-    (ordering_then (nat_cmp a.last b.last) (bool_cmp a.write b.write)))))
+    ordering_then (nat_cmp a.access b.access) (ordering_then (nat_cmp a.ioas b.ioas)
+    (ordering_then (nat_cmp a.first b.first) (ordering_then (nat_cmp a.last b.last)
+    (ordering_then (nat_cmp a.file b.file) (bool_cmp a.write b.write)))))
 
 abbrev pub pin_of : PinKey → HeldPin
 pin_of key =

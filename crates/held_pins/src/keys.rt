@@ -11,14 +11,14 @@ use crate::pin::HeldPin;
 use iofd_words::{FileNo, ObjId, PAGE_SIZE, Span};
 use std::hash::{Hash, Hasher};
 
-/// All that a pin is.
+/// All that a pin is. The fields stand so that it takes 32 bytes, half a line of a cache.
 #[derive(Clone, Copy, PartialEq, Eq, PartialOrd, Ord)]
 pub(crate) struct PinKey {
-    pub file: u16,
     pub access: u32,
     pub ioas: u32,
     pub first: u64,
     pub last: u64,
+    pub file: u16,
     pub write: bool,
 }
 
@@ -113,11 +113,11 @@ pub(crate) fn key_of(pin: &HeldPin) -> PinKey
     ensures ordered { pin.now.span.first ≤ pin.now.span.last }
 {
     PinKey {
-        file: pin.file.0,
         access: pin.access.0,
         ioas: pin.ioas.0,
         first: pin.span.first(),
         last: pin.span.last(),
+        file: pin.file.0,
         write: pin.write,
     }
 }

@@ -18,12 +18,15 @@ fn count_below<A: Allocator>(entries: &[Entry<Pages<A>>], number: u64) -> usize
     entries.partition_point(|entry| entry.number < number)
 }
 
-/// Whether all entries have a lower number, those of objects that are gone too.
+/// Whether all entries have a lower number, those of objects that are gone too: it looks at the last.
 pub(crate) fn are_below<A: Allocator>(entries: &[Entry<Pages<A>>], number: u64) -> bool
     requires { IsTrue (are_rising entries.now) }
     ensures { result ≡ are_below entries.now number }
 {
-    count_below(entries, number) == entries.len()
+    match entries.last() {
+        Some(entry) => entry.number < number,
+        None => true,
+    }
 }
 
 /// Where the entry of this number stands, by binary search.

@@ -16,6 +16,11 @@ pub record AccessMap : Type 0 where
   pub rows : AccessRows
   pub room : ℕ
 
+-- what is seen of a map that is there; of none no rows, and no room
+abbrev pub kept_map : {X : Type 0} → (X → AccessMap) → Option X → AccessMap
+kept_map seen None = record { rows = []; room = 0 }
+kept_map seen (Some map) = seen map
+
 -- the rows of a map by rising index, in whatever order the map has them
 abbrev pub rising_rows : List (ℕ × AccessPin) → AccessRows
 rising_rows [] = []

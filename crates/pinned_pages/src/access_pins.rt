@@ -1,16 +1,14 @@
-//! The pages that accesses pin, by hash: a page's row is found at once, and one more or one less moves at most one
-//! other. Memory grows with these pages, whatever else their object has.
+//! The pages that accesses pin. No access pins a page of most objects, and these keep a word for them.
 
 ghost use Rattle.std.specs.Prelude.{ℕ, ◌≡◌, ◌==◌, ◌<◌, ◌≤◌, ◌+◌, ◌-◌, ◌^◌, [], None, Some, IsTrue, IfSome, IfNone};
-ghost use Rattle.std.specs.Prelude.{OnOk, OnErr};
+ghost use Rattle.std.specs.Prelude.{IfOk, OnOk, OnErr};
 ghost use Rattle.std.specs.Prelude.{is_some, nat_le, if◌then◌else◌};
 ghost use Rattle.std.specs.List.{count_by, range_with_len};
 ghost use Rattle.pinned_pages.specs.Access.{are_counted, frame_in, pins_in, row_at};
 
+use crate::pin_rows::PinRows;
 use iofd_words::{FrameNo, NoMemory};
 use std::alloc::{Allocator, Global};
-use std::collections::HashMap;
-use std::hash::{BuildHasherDefault, FoldHasher};
 use std::marker::Model;
 
 /// A page on which pins by accesses stand: the frame at which it is pinned, and how many they are.
@@ -24,19 +22,17 @@ pub struct AccessPin {
 /// more there is room.
 #[derive(Drop)]
 pub(crate) struct AccessPins<A: Allocator = Global> {
-    rows: HashMap<u64, AccessPin, BuildHasherDefault<FoldHasher>, A>,
+    alloc: A,
+    // None where there is no room for any.
+    rows: Option<Box<PinRows<A>, A>>,
 }
 
 impl<A: Allocator> Model for AccessPins<A> {
-    ghost use Rattle.std.specs.Prelude.{◌==◌};
-    ghost use Rattle.std.specs.HashMap.{IsUnique, spare};
-    ghost use Rattle.pinned_pages.specs.Access.{AccessMap, rising_rows};
+    ghost use Rattle.pinned_pages.specs.Access.{AccessMap, kept_map};
 
     ghost Value = { AccessMap };
 
-    ghost view = { λ map. record { rows = rising_rows map.rows.entries; room = spare map.rows } };
-
-    ghost invariant = { λ map. IsUnique (λ index other. index == other) map.rows };
+    ghost view = { λ pins. kept_map (λ rows. rows.value) pins.rows };
 }
 
 impl<A: Allocator> AccessPins<A> {
@@ -44,9 +40,7 @@ impl<A: Allocator> AccessPins<A> {
     pub(crate) fn new(alloc: A) -> AccessPins<A>
         ensures { result.rows ≡ [] }
     {
-        AccessPins {
-            rows: HashMap::new(alloc),
-        }
+        AccessPins { alloc, rows: None }
     }
 
     /// How many pages there are, all of which are below some index.
@@ -54,14 +48,20 @@ impl<A: Allocator> AccessPins<A> {
         ensures { (count : ℕ) → IsTrue (are_counted count self.now.rows)
             → count_by (λ index. is_some (row_at self.now.rows index)) (range_with_len 0 count) ≡ result }
     {
-        self.rows.len()
+        match &self.rows {
+            Some(rows) => rows.len(),
+            None => 0,
+        }
     }
 
     /// The row of this page.
     pub(crate) fn get(&self, index: u64) -> Option<AccessPin>
         ensures { result ≡ row_at self.now.rows index }
     {
-        self.rows.get(&index).copied()
+        match &self.rows {
+            Some(rows) => rows.get(index),
+            None => None,
+        }
     }
 
     /// The frame at which this page is pinned.
@@ -78,7 +78,10 @@ impl<A: Allocator> AccessPins<A> {
     pub(crate) fn has_room(&self, more: u64) -> bool
         ensures { result ≡ nat_le more self.now.room }
     {
-        more <= (self.rows.capacity() - self.rows.len()) as u64
+        match &self.rows {
+            Some(rows) => rows.has_room(more),
+            None => more == 0,
+        }
     }
 
     /// Makes room for so many more pages. Its only error is want of memory, which leaves the pages; some more room may
@@ -95,10 +98,13 @@ impl<A: Allocator> AccessPins<A> {
         if self.has_room(more) {
             return Ok(());
         }
-        if self.rows.reserve(more as usize).is_err() {
-            return Err(NoMemory);
+        match &mut self.rows {
+            Some(rows) => rows.reserve(more),
+            None => {
+                self.rows = Some(boxed(self.alloc, more)?);
+                Ok(())
+            }
         }
-        Ok(())
     }
 
     /// Puts the first pin on a page, at this frame. There is room. It takes no memory.
@@ -113,7 +119,9 @@ impl<A: Allocator> AccessPins<A> {
             → IsTrue (are_counted count self.new.rows) }
         ensures room { self.old.room ≤ self.new.room + 1 }
     {
-        let _ = self.rows.insert(index, AccessPin { frame, pins: 1 });
+        if let Some(rows) = &mut self.rows {
+            rows.add(index, frame);
+        }
     }
 
     /// Puts one pin more on a page on which some stand: what its row was. None where none stands, and then it does
@@ -129,10 +137,10 @@ impl<A: Allocator> AccessPins<A> {
         ensures none { IfNone result (self.new ≡ self.old) }
         ensures room { self.new.room ≡ self.old.room }
     {
-        let row = self.rows.get_mut(&index)?;
-        let before = *row;
-        row.pins += 1;
-        Some(before)
+        match &mut self.rows {
+            Some(rows) => rows.pin_again(index),
+            None => None,
+        }
     }
 
     /// Takes one pin off a page on which more than one stand: what its row was. None where no more stand, and then it
@@ -149,25 +157,22 @@ impl<A: Allocator> AccessPins<A> {
         ensures none { IfNone result (self.new ≡ self.old) }
         ensures room { self.new.room ≡ self.old.room }
     {
-        match self.rows.get_mut(&index) {
-            Some(row) if row.pins > 1 => {
-                let before = *row;
-                row.pins -= 1;
-                Some(before)
-            }
-            Some(_) => None,
+        match &mut self.rows {
+            Some(rows) => rows.unpin_one(index),
             None => None,
         }
     }
 
-    /// Gives the memory of the map back, where no page is pinned.
+    /// Gives the memory for rows back, where no page is pinned.
     pub(crate) fn free(&mut self)
-    where
-        A: Copy,
         ensures { self.new.rows ≡ self.old.rows }
     {
-        if self.rows.is_empty() {
-            self.rows.shrink_to_fit();
+        let is_empty = match &self.rows {
+            Some(rows) => rows.is_empty(),
+            None => true,
+        };
+        if is_empty {
+            self.rows = None;
         }
     }
 
@@ -179,6 +184,18 @@ impl<A: Allocator> AccessPins<A> {
             → IsTrue (are_counted count self.new.rows) }
         ensures room { self.old.room ≤ self.new.room }
     {
-        let _ = self.rows.remove(&index);
+        if let Some(rows) = &mut self.rows {
+            rows.remove(index);
+        }
     }
+}
+
+/// A box of no rows, with room for so many.
+fn boxed<A: Allocator + Copy>(alloc: A, room: u64) -> Result<Box<PinRows<A>, A>, NoMemory>
+    ensures rows { IfOk result (λ made. made.value.rows ≡ []) }
+    ensures room { IfOk result (λ made. room ≤ made.value.room) }
+{
+    let mut rows = PinRows::new(alloc);
+    rows.reserve(room)?;
+    Ok(Box::new(alloc, rows)?)
 }

@@ -6,6 +6,7 @@
 mod access_pins;
 mod frames;
 mod pages;
+mod pin_rows;
 
 pub use access_pins::AccessPin;
 pub use pages::Pages;

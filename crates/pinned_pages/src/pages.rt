@@ -34,9 +34,9 @@ use std::marker::Model;
 #[derive(Drop)]
 pub struct Pages<A: Allocator = Global> {
     user: UserNo,
+    writable: bool,
     va: u64,
     count: u64,
-    writable: bool,
     table_pins: u64,
     // Of all pages, while a page table pins them.
     frames: Vec<FrameNo, A>,

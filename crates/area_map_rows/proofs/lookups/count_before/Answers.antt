@@ -1,4 +1,4 @@
-use Rattle.std.proofs.Common.{◌+◌, ◌≤◌, ltb, length, drop, arith}
+use Rattle.std.proofs.Common.{◌≤◌, ltb, length, drop, arith}
 use Rattle.std.proofs.lemmas.List.{length-drop, take_rest}
 use Rattle.iofd_words.specs.declared.rows.Area.{Area}
 use Rattle.area_map_rows.proofs.Parts.{below_before}

@@ -3,7 +3,7 @@ use Rattle.std.proofs.lemmas.Bool.{eqb-true}
 use Rattle.pinned_pages.specs.Access.{AccessMap, rising_rows, row_at}
 use Rattle.pinned_pages.specs.declared.access_pins.AccessPin.{AccessPin}
 use Rattle.pinned_pages.proofs.AccessRows.{all_counted, found_counted, from_ok, row_found, sorted}
-use Rattle.pinned_pages.proofs.access_pins.AccessPins.add.Goals as goal
+use Rattle.pinned_pages.proofs.pin_rows.PinRows.add.Goals as goal
 
 pub returns-clause-rows : goal.returns-clause-rows
 returns-clause-rows g c other =

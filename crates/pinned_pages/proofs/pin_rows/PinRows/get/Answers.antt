@@ -1,7 +1,7 @@
 use Rattle.std.proofs.Common.{◌∙◌, sym, ap}
 use Rattle.pinned_pages.specs.Access.{AccessMap, row_at}
 use Rattle.pinned_pages.proofs.AccessRows.{row_found}
-use Rattle.pinned_pages.proofs.access_pins.AccessPins.get.Goals as goal
+use Rattle.pinned_pages.proofs.pin_rows.PinRows.get.Goals as goal
 
 pub returns : goal.returns
 returns g c =

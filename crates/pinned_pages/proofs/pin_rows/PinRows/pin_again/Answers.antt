@@ -4,7 +4,7 @@ use Rattle.std.specs.Prelude.{IsSome}
 use Rattle.pinned_pages.specs.Access.{AccessMap, pins_in, rising_rows, row_at}
 use Rattle.pinned_pages.specs.declared.access_pins.AccessPin.{AccessPin}
 use Rattle.pinned_pages.proofs.AccessRows.{changed_counted, row_found, sorted}
-use Rattle.pinned_pages.proofs.access_pins.AccessPins.pin_again.Goals as goal
+use Rattle.pinned_pages.proofs.pin_rows.PinRows.pin_again.Goals as goal
 
 pub returns-in_err-row-clause-before : goal.returns-in_err-row-clause-before
 returns-in_err-row-clause-before g c =

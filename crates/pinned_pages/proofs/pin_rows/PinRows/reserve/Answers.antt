@@ -1,7 +1,7 @@
 use Rattle.std.proofs.Common.{◌∙◌, ap}
 use Rattle.pinned_pages.specs.Access.{AccessMap}
 use Rattle.pinned_pages.proofs.AccessRows.{same_rows}
-use Rattle.pinned_pages.proofs.access_pins.AccessPins.reserve.Goals as goal
+use Rattle.pinned_pages.proofs.pin_rows.PinRows.reserve.Goals as goal
 
 pub returns-clause-rows : goal.returns-clause-rows
 returns-clause-rows g c =

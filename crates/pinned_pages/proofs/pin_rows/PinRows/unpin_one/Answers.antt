@@ -5,8 +5,8 @@ use Rattle.std.specs.Prelude.{IsSome}
 use Rattle.pinned_pages.specs.Access.{AccessMap, AccessRows, are_counted, pins_in, rising_rows, row_at}
 use Rattle.pinned_pages.specs.declared.access_pins.AccessPin.{AccessPin}
 use Rattle.pinned_pages.proofs.AccessRows.{changed_counted, row_found, set_same, sorted}
-use Rattle.pinned_pages.proofs.access_pins.AccessPins.unpin_one.Goals as goal
-use Rattle.pinned_pages.proofs.access_pins.AccessPins.unpin_one.Goals.{in-Some, in-Some-2, in-None, Joined-get_mut}
+use Rattle.pinned_pages.proofs.pin_rows.PinRows.unpin_one.Goals as goal
+use Rattle.pinned_pages.proofs.pin_rows.PinRows.unpin_one.Goals.{in-Some, in-Some-2, in-None, Joined-get_mut}
 
 -- what is found is the page's row
 row_is : (g : _) (c : goal.Joined-get_mut g) (o : Option AccessPin)

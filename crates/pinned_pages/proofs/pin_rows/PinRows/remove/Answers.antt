@@ -2,7 +2,7 @@ use Rattle.std.proofs.Common.{◌≡◌, ◌∙◌, Bool, true, false, cond, eqb
 use Rattle.pinned_pages.specs.Access.{AccessMap, rising_rows, row_at}
 use Rattle.pinned_pages.specs.declared.access_pins.AccessPin.{AccessPin}
 use Rattle.pinned_pages.proofs.AccessRows.{all_counted, found_counted, row_found, sorted}
-use Rattle.pinned_pages.proofs.access_pins.AccessPins.remove.Goals as goal
+use Rattle.pinned_pages.proofs.pin_rows.PinRows.remove.Goals as goal
 
 pub returns-clause-rows : goal.returns-clause-rows
 returns-clause-rows g c other =
